@@ -1,0 +1,5 @@
+pub mod Bits
+pub mod Tests
+pub mod Lists
+pub mod Lanes
+pub mod Examples

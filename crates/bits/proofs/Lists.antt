@@ -1,0 +1,119 @@
+-- A list that a loop replaces element by element: what is done, and then what is left of the old list.
+-- Assumes nothing.
+use mathlib.Core.Path.{_≡_, refl, sym, ap, _∙_}
+use mathlib.Core.Bool.{Bool, true, false, cond}
+use mathlib.Core.Logic.{⊎-elim}
+use mathlib.Core.List.{List, [], _∷_, _++_, append-assoc, append-nil}
+use Prim.Native.Nat.{ℕ, zero, suc, _+_, _<_, _≤_}
+use native.Mathlib.Nat.{eq-or-lt-of-le}
+use native.Mathlib.Numerals.{add-one}
+use native.Mathlib.Omega.{arith}
+use lib.Dec.{eqb, ltb}
+use lib.ListN.{length, getD, set, drop, length-append, length-set, drop-of-length-le, List·getD-append, List·getD-eq-default}
+use lib.Seq.{drop-cons, set-at, getD-at, getD-append-add, getD-drop, getD-set-same, getD-set-other, ext-getD}
+use borrow.Author.Tests.{eqb-true, eqb-false, ltb-true, ltb-false}
+use Rattle.bits.specs.Lists.{listed, replaced}
+
+-- the first i elements are done
+unfoldable pub done : ℕ → (ℕ → ℕ) → List ℕ → List ℕ
+done i f l = listed i f ++ drop i l
+
+pub length-listed : (n : ℕ) (f : ℕ → ℕ) → length (listed n f) ≡ n
+unfolding listed
+length-listed zero f = refl
+length-listed (suc n) f = omega (arith, length-append (listed n f) (f n ∷ []), length-listed n f)
+
+pub done-none : (f : ℕ → ℕ) (l : List ℕ) → l ≡ done 0 f l
+unfolding done listed
+done-none f l = refl
+
+pub done-at : (i : ℕ) (f : ℕ → ℕ) (l : List ℕ) → getD (done i f l) i 0 ≡ getD l i 0
+unfolding done
+done-at i f l =
+    let e : i ≡ length (listed i f) + 0 = omega (arith, length-listed i f) in
+    let z : i + 0 ≡ i = omega arith in
+    ap (λ (k : ℕ). getD (listed i f ++ drop i l) k 0) e ∙ getD-append-add (listed i f) (drop i l) 0 0 ∙ getD-drop i l 0 0 ∙ ap (λ (k : ℕ). getD l k 0) z
+
+pub done-more : (i : ℕ) (f : ℕ → ℕ) (l : List ℕ) → i < length l → set (done i f l) i (f i) ≡ done (i + 1) f l
+unfolding done listed
+done-more i f l h = rw (add-one, drop-cons l i 0) (set-at (listed i f) (getD l i 0) (drop (suc i) l) (f i) i (length-listed i f) ∙ sym (append-assoc (listed i f) (f i ∷ []) (drop (suc i) l)))
+
+pub done-all : (n : ℕ) (f : ℕ → ℕ) (l : List ℕ) → length l ≡ n → done n f l ≡ listed n f
+unfolding done
+done-all n f l e = let h : length l ≤ n = omega arith in ap (λ (r : List ℕ). listed n f ++ r) (drop-of-length-le l h) ∙ append-nil (listed n f)
+
+-- ---- a list by its elements
+
+pub getD-listed : (n : ℕ) (f : ℕ → ℕ) (i : ℕ) → i < n → getD (listed n f) i 0 ≡ f i
+unfolding listed
+getD-listed zero f i h = absurd (omega arith)
+getD-listed (suc n) f i h =
+    ⊎-elim
+    (λ (e : suc i ≡ suc n). let m : i ≡ n = omega arith in
+    ap (λ (k : ℕ). getD (listed n f ++ (f n ∷ [])) k 0) m ∙ getD-at (listed n f) (f n) [] 0 n (length-listed n f) ∙ ap f (sym m))
+    (λ (l : suc i < suc n). let b : i < length (listed n f) = omega (arith, length-listed n f) in
+    List·getD-append (listed n f) (f n ∷ []) 0 i b ∙ getD-listed n f i (omega arith))
+    (eq-or-lt-of-le h)
+
+-- a list is known by its elements
+pub is-listed : (l : List ℕ) (n : ℕ) (f : ℕ → ℕ) → length l ≡ n → ((i : ℕ) → i < n → getD l i 0 ≡ f i) → l ≡ listed n f
+is-listed l n f e h = ext-getD 0 l (listed n f) (e ∙ sym (length-listed n f)) (λ i b. let m : i < n = omega arith in h i m ∙ sym (getD-listed n f i m))
+
+-- ---- a list with some elements replaced
+
+module _ (p : ℕ → Bool) (f : ℕ → ℕ) (l : List ℕ) where
+  pub length-replaced : length (replaced p f l) ≡ length l
+  unfolding replaced
+  length-replaced = length-listed (length l) _
+
+  -- what stands at i
+  pub getD-replaced : (i : ℕ) → i < length l → getD (replaced p f l) i 0 ≡ cond (p i) (f i) (getD l i 0)
+  unfolding replaced
+  getD-replaced i h = getD-listed (length l) _ i h
+
+  -- an element that isn't chosen stays, also past the end
+  pub replaced-other : (i : ℕ) → p i ≡ false → getD (replaced p f l) i 0 ≡ getD l i 0
+  replaced-other i e =
+      let by : (t : Bool) → ltb i (length l) ≡ t → getD (replaced p f l) i 0 ≡ getD l i 0 =
+      elim [
+        | true ↦ λ b. getD-replaced i (ltb-true i (length l) b) ∙ ap (λ (t : Bool). cond t (f i) (getD l i 0)) e
+        | false ↦ λ b. let past : length l ≤ i = ltb-false i (length l) b in
+            List·getD-eq-default (replaced p f l) 0 (omega (arith, length-replaced)) ∙ sym (List·getD-eq-default l 0 past)
+      ] in
+      by (ltb i (length l)) refl
+
+  -- a list that has those elements
+  pub is-replaced : (m : List ℕ) → length m ≡ length l → ((i : ℕ) → i < length l → getD m i 0 ≡ cond (p i) (f i) (getD l i 0)) → m ≡ replaced p f l
+  unfolding replaced
+  is-replaced m e h = is-listed m (length l) _ e h
+
+  -- none is chosen
+  pub replaced-none : ((i : ℕ) → i < length l → p i ≡ false) → replaced p f l ≡ l
+  replaced-none h = sym (is-replaced l refl (λ i b. rw (h i b)))
+
+-- two choices that agree on the list, and two values that agree where chosen
+pub replaced-ext : (p q : ℕ → Bool) (f g : ℕ → ℕ) (l : List ℕ) → ((i : ℕ) → i < length l → p i ≡ q i) → ((i : ℕ) → i < length l → q i ≡ true → f i ≡ g i)
+    → replaced p f l ≡ replaced q g l
+replaced-ext p q f g l e h =
+    let pick : (i : ℕ) → i < length l → (b : Bool) → q i ≡ b → cond b (f i) (getD l i 0) ≡ cond b (g i) (getD l i 0) =
+    λ i m. elim [
+      | true ↦ λ t. h i m t
+      | false ↦ λ t. refl
+    ] in
+    is-replaced q g l (replaced p f l) (length-replaced p f l)
+    (λ i m. getD-replaced p f l i m ∙ ap (λ (t : Bool). cond t (f i) (getD l i 0)) (e i m) ∙ pick i m (q i) refl)
+
+-- one element more is chosen
+pub replaced-more : (p q : ℕ → Bool) (f : ℕ → ℕ) (l : List ℕ) (n : ℕ) → n < length l → q n ≡ true → ((i : ℕ) → (i ≡ n → ⊥) → q i ≡ p i)
+    → set (replaced p f l) n (f n) ≡ replaced q f l
+replaced-more p q f l n h t e =
+    let long : n < length (replaced p f l) = omega (arith, length-replaced p f l) in
+    let at : (i : ℕ) → i < length l → (b : Bool) → eqb i n ≡ b → getD (set (replaced p f l) n (f n)) i 0 ≡ cond (q i) (f i) (getD l i 0) =
+    λ i m. elim [
+      | true ↦ λ s. let d : i ≡ n = eqb-true i n s in
+          ap (λ (k : ℕ). getD (set (replaced p f l) n (f n)) k 0) d ∙ getD-set-same (replaced p f l) n (f n) 0 long
+          ∙ sym (ap (λ (k : ℕ). cond (q k) (f k) (getD l k 0)) d ∙ ap (λ (b : Bool). cond b (f n) (getD l n 0)) t)
+      | false ↦ λ s. getD-set-other (replaced p f l) n i (f n) 0 (eqb-false i n s) ∙ getD-replaced p f l i m
+          ∙ ap (λ (b : Bool). cond b (f i) (getD l i 0)) (sym (e i (eqb-false i n s)))
+    ] in
+    is-replaced q f l (set (replaced p f l) n (f n)) (length-set (replaced p f l) n (f n) ∙ length-replaced p f l) (λ i m. at i m (eqb i n) refl)

@@ -1,0 +1,5 @@
+pub mod Front
+pub mod Laid
+pub mod Cases
+pub mod Laws
+pub mod Examples

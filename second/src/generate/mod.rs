@@ -1,0 +1,120 @@
+//! Cases made from a seed and a case number.
+
+pub mod records;
+mod script;
+pub mod setups;
+pub mod states;
+
+use crate::random::Random;
+use crate::setup::Setup;
+use crate::stream::{Case, Operation};
+use script::Script;
+
+/// The case with this number of this seed.
+pub fn case(seed: u64, number: u64) -> Case {
+    let mut random = Random::for_case(seed, number);
+    match random.weighted(&[140, 160, 280, 375, 40, 5]) {
+        0 => bad_set_up(&mut random),
+        1 => unsound_state(&mut random),
+        2 => made_up_state(&mut random),
+        3 => reached_state(&mut random),
+        4 => never_set_up(&mut random),
+        _ => long_trace(&mut random),
+    }
+}
+
+fn finish(setup: Setup, build: impl FnOnce(&mut Script)) -> Case {
+    let mut script = Script::new(&setup);
+    build(&mut script);
+    let operations: Vec<Operation> = script.into_operations();
+    Case { setup, operations }
+}
+
+/// A set-up that is refused, by set-up and by feed.
+fn bad_set_up(random: &mut Random) -> Case {
+    let setup = setups::bad(random);
+    finish(setup, |script| {
+        if random.chance(70) {
+            script.set_up();
+        }
+        if random.chance(20) {
+            script.lend_anything(random);
+        }
+        script.feed_something(random);
+        if random.chance(30) {
+            script.set_up();
+        }
+    })
+}
+
+/// A state with one clause of refusal 5 broken, then perhaps set up anew.
+fn unsound_state(random: &mut Random) -> Case {
+    let setup = setups::good(random);
+    finish(setup, |script| {
+        let clause = states::any_clause(random);
+        let state = states::unsound(random, script.setup(), clause);
+        script.lend(state);
+        script.feed_something(random);
+        if random.chance(25) {
+            script.set_up();
+            script.feed_trace(random, 4);
+        }
+    })
+}
+
+/// A sound state made up, then traces.
+fn made_up_state(random: &mut Random) -> Case {
+    let setup = setups::good(random);
+    finish(setup, |script| {
+        if random.chance(20) {
+            script.set_up();
+        }
+        let state = states::sound(random, script.setup());
+        script.lend(state);
+        let records = 1 + random.below(16);
+        script.feed_trace(random, records);
+        if random.chance(10) {
+            script.set_up();
+            script.feed_trace(random, 3);
+        }
+    })
+}
+
+/// A set-up, then traces and scenarios.
+fn reached_state(random: &mut Random) -> Case {
+    let setup = setups::good(random);
+    finish(setup, |script| {
+        script.set_up();
+        if random.chance(60) {
+            script.scenario(random);
+        }
+        let records = 1 + random.below(24);
+        script.feed_trace(random, records);
+        if random.chance(5) {
+            script.set_up();
+            script.feed_trace(random, 4);
+        }
+    })
+}
+
+/// Hundreds of records in one case.
+fn long_trace(random: &mut Random) -> Case {
+    let setup = setups::good(random);
+    finish(setup, |script| {
+        script.set_up();
+        for _ in 0..1 + random.below(3) {
+            script.scenario(random);
+            let records = 50 + random.below(400);
+            script.feed_trace(random, records);
+        }
+    })
+}
+
+/// Everything lent at 0 and fed without a set-up.
+fn never_set_up(random: &mut Random) -> Case {
+    let setup = setups::good(random);
+    finish(setup, |script| {
+        let records = 1 + random.below(12);
+        script.feed_trace(random, records);
+    })
+}

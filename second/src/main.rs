@@ -1,0 +1,152 @@
+//! An independent implementation of the bench, and what holds other programs against it.
+
+mod arguments;
+mod bench;
+mod compare;
+mod coverage;
+mod faults;
+mod feed;
+mod fuzz;
+mod generate;
+#[cfg(test)]
+mod marked;
+mod messages;
+mod names;
+mod plant;
+mod program;
+#[cfg(test)]
+mod properties;
+mod queue;
+mod random;
+mod readiness;
+mod records;
+mod registers;
+mod run;
+mod selfcheck;
+mod setup;
+mod show;
+mod shrink;
+mod sound;
+mod state;
+mod stream;
+mod times;
+
+use std::fs;
+use std::io::{BufReader, BufWriter, Write};
+use std::process::ExitCode;
+
+use arguments::Arguments;
+use faults::{Fault, FAULTS};
+use program::Program;
+
+const USAGE: &str = "usage:
+  second run [--fault NAME] < stream > output
+  second write --seed S --cases N > stream
+  second selfcheck [--seed S] [--cases N]
+  second faults [--seed S] [--cases N] [--table | --masks]
+  second compare PROGRAM [--seed S] [--cases N] [-- its own words]
+  second compare PROGRAM --stream FILE --expect FILE [-- its own words]
+  second fuzz PROGRAM [--seed S] [--rounds N] [-- its own words]";
+
+/// Whether a command found everything in order, or why it could not run.
+type Verdict = Result<bool, String>;
+
+fn text(error: std::io::Error) -> String {
+    error.to_string()
+}
+
+/// The fault with this name, for trying the comparison out.
+fn fault_named(name: &str) -> Result<Fault, String> {
+    let found = FAULTS.iter().find(|described| format!("{:?}", described.fault) == name);
+    found.map(|described| described.fault).ok_or(format!("no fault is named {name}"))
+}
+
+fn run_command(arguments: &Arguments) -> Verdict {
+    let fault = arguments.text("--fault").map_or(Ok(Fault::None), fault_named)?;
+    let input = BufReader::with_capacity(1 << 20, std::io::stdin().lock());
+    let mut output = BufWriter::with_capacity(1 << 20, std::io::stdout().lock());
+    match run::run_stream(input, &mut output, fault).map_err(text)? {
+        run::Ended::AtItsEnd => Ok(true),
+        run::Ended::BadCase => Err("bad case".to_string()),
+    }
+}
+
+/// Writes generated cases as a stream.
+fn write_command(arguments: &Arguments) -> Verdict {
+    let seed = arguments.number("--seed", 1)?;
+    let mut output = BufWriter::with_capacity(1 << 20, std::io::stdout().lock());
+    let mut bytes = vec![stream::VERSION];
+    for number in 0..arguments.number("--cases", 1000)? {
+        stream::put_case(&generate::case(seed, number), &mut bytes);
+        output.write_all(&bytes).map_err(text)?;
+        bytes.clear();
+    }
+    output.write_all(&bytes).and_then(|()| output.flush()).map_err(text)?;
+    Ok(true)
+}
+
+fn selfcheck_command(arguments: &Arguments) -> Verdict {
+    let (seed, cases) = (arguments.number("--seed", 1)?, arguments.number("--cases", 20_000)?);
+    Ok(selfcheck::selfcheck(seed, cases))
+}
+
+fn faults_command(arguments: &Arguments) -> Verdict {
+    let (seed, cases) = (arguments.number("--seed", 1)?, arguments.number("--cases", 20_000)?);
+    if arguments.has("--masks") {
+        return Ok(plant::masks(seed, cases));
+    }
+    Ok(plant::faults(seed, cases, arguments.has("--table")))
+}
+
+fn program_of(arguments: &Arguments) -> Result<Program, String> {
+    let path = arguments.words.first().ok_or(USAGE)?.clone();
+    Ok(Program { path, arguments: arguments.for_program.clone() })
+}
+
+fn compare_command(arguments: &Arguments) -> Verdict {
+    let program = program_of(arguments)?;
+    let agrees = match (arguments.text("--stream"), arguments.text("--expect")) {
+        (Some(stream), Some(expect)) => {
+            let stream = fs::read(stream).map_err(text)?;
+            let expect = fs::read(expect).map_err(text)?;
+            compare::compare_stored(&program, &stream, &expect)
+        }
+        _ => {
+            let seed = arguments.number("--seed", 1)?;
+            compare::compare(&program, seed, arguments.number("--cases", 20_000)?)
+        }
+    };
+    agrees.map_err(text)
+}
+
+fn fuzz_command(arguments: &Arguments) -> Verdict {
+    let program = program_of(arguments)?;
+    let (seed, rounds) = (arguments.number("--seed", 1)?, arguments.number("--rounds", 1000)?);
+    fuzz::fuzz(&program, seed, rounds).map_err(text)
+}
+
+fn command() -> Verdict {
+    let mut given = std::env::args().skip(1);
+    let command = given.next().ok_or(USAGE)?;
+    let arguments = Arguments::read(given)?;
+    match command.as_str() {
+        "run" => run_command(&arguments),
+        "write" => write_command(&arguments),
+        "selfcheck" => selfcheck_command(&arguments),
+        "faults" => faults_command(&arguments),
+        "compare" => compare_command(&arguments),
+        "fuzz" => fuzz_command(&arguments),
+        _ => Err(USAGE.to_string()),
+    }
+}
+
+fn main() -> ExitCode {
+    match command() {
+        Ok(true) => ExitCode::SUCCESS,
+        Ok(false) => ExitCode::FAILURE,
+        Err(message) => {
+            eprintln!("{message}");
+            ExitCode::FAILURE
+        }
+    }
+}

@@ -1,0 +1,113 @@
+//! Names for the bytes of an operation's output.
+
+use crate::stream::{Case, Operation};
+
+const PORT_FIELDS: [(&str, usize); 14] = [
+    ("clock", 8),
+    ("link", 1),
+    ("owed", 1),
+    ("Received", 1),
+    ("Overflow", 1),
+    ("DRS Received", 1),
+    ("visibility", 1),
+    ("FRS interrupt", 1),
+    ("signalling", 1),
+    ("queue start", 2),
+    ("queue depth", 2),
+    ("carried count", 1),
+    ("carried bytes", 16),
+    ("broken", 1),
+];
+const STATUS_FIELDS: [(&str, usize); 4] =
+    [("phase", 1), ("cause", 1), ("ready time", 8), ("FLR end", 8)];
+const ANSWER_FIELDS: [&str; 8] = [
+    "status",
+    "interrupts",
+    "FRS queued",
+    "FRS dropped",
+    "data byte 0",
+    "data byte 1",
+    "data byte 2",
+    "data byte 3",
+];
+
+/// The field at an offset, or how far past the fields it lies.
+fn among(fields: &[(&'static str, usize)], offset: usize) -> Result<&'static str, usize> {
+    let mut left = offset;
+    for (name, length) in fields {
+        if left < *length {
+            return Ok(name);
+        }
+        left -= length;
+    }
+    Err(left)
+}
+
+fn image_field(case: &Case, offset: usize) -> String {
+    let left = match among(&PORT_FIELDS, offset) {
+        Ok(name) => return name.to_string(),
+        Err(left) => left,
+    };
+    let setup = &case.setup;
+    if left < setup.statuses * 18 {
+        let name = among(&STATUS_FIELDS, left % 18).unwrap_or("?");
+        return format!("status of slot {}: {name}", left / 18);
+    }
+    let left = left - setup.statuses * 18;
+    if left < setup.live_words * 4 {
+        let word = left / 4;
+        let (slot, place) = (word / 64, word % 64);
+        return format!("live register of slot {slot}, word {place} ({:02X}h)", place * 4);
+    }
+    let left = left - setup.live_words * 4;
+    if left < setup.cells * 4 {
+        return format!("queue cell {}", left / 4);
+    }
+    "past the end of the image".to_string()
+}
+
+fn feed_field(case: &Case, room: usize, offset: usize) -> String {
+    match offset {
+        0 => "number".to_string(),
+        1..=4 => "bytes consumed".to_string(),
+        5..=8 => "bytes written".to_string(),
+        _ if offset < 9 + room => {
+            let byte = offset - 9;
+            let field = ANSWER_FIELDS[byte % 8];
+            format!("answer byte {} of record {} ({field})", byte % 8, byte / 8)
+        }
+        _ => image_field(case, offset - 9 - room),
+    }
+}
+
+/// How many bytes an operation's output has.
+pub fn output_length(case: &Case, operation: &Operation) -> usize {
+    let setup = &case.setup;
+    let image = 38 + setup.statuses * 18 + setup.live_words * 4 + setup.cells * 4;
+    match operation {
+        Operation::SetUp => 1 + image,
+        Operation::Feed { room, .. } => 9 + usize::from(*room) + image,
+        Operation::Lend(_) => 0,
+    }
+}
+
+/// The operation and the field to which a byte of a case's output belongs.
+pub fn name(case: &Case, offset: usize) -> String {
+    let mut left = offset;
+    for (index, operation) in case.operations.iter().enumerate() {
+        let length = output_length(case, operation);
+        if left < length {
+            let (what, field) = match operation {
+                Operation::SetUp if left == 0 => ("set-up", "number".to_string()),
+                Operation::SetUp => ("set-up", image_field(case, left - 1)),
+                Operation::Feed { room, .. } => {
+                    ("feed", feed_field(case, usize::from(*room), left))
+                }
+                Operation::Lend(_) => ("lend", String::new()),
+            };
+            return format!("operation {index} ({what}), {field}");
+        }
+        left -= length;
+    }
+    "past the end of the case's output".to_string()
+}

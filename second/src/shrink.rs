@@ -1,0 +1,237 @@
+//! Making a failing case smaller while it still fails.
+
+use crate::setup::{SlotEntry, MOST_SLOTS, WORDS_PER_SLOT};
+use crate::show::split_records;
+use crate::state::{Cause, Port, State, Status};
+use crate::stream::{Case, Operation};
+use crate::times::{Code, Nanos};
+
+/// Tries smaller cases until none fails any more or the tries run out.
+pub fn shrink(case: Case, tries: usize, mut fails: impl FnMut(&Case) -> bool) -> Case {
+    let mut best = case;
+    let mut left = tries;
+    loop {
+        let mut smaller = None;
+        for candidate in candidates(&best) {
+            if left == 0 {
+                return best;
+            }
+            left -= 1;
+            if candidate != best && fails(&candidate) {
+                smaller = Some(candidate);
+                break;
+            }
+        }
+        match smaller {
+            Some(case) => best = case,
+            None => return best,
+        }
+    }
+}
+
+/// Smaller cases, the most hopeful first.
+fn candidates(case: &Case) -> Vec<Case> {
+    let mut all = without_operations(case);
+    all.extend(fewer_slots(case));
+    all.extend(fewer_cells(case));
+    for index in 0..case.operations.len() {
+        for operation in simpler_operations(&case.operations[index]) {
+            let mut next = case.clone();
+            next.operations[index] = operation;
+            all.push(next);
+        }
+    }
+    all.extend(simpler_setups(case));
+    all
+}
+
+fn without_operations(case: &Case) -> Vec<Case> {
+    let count = case.operations.len();
+    let mut all = Vec::new();
+    for kept in [count / 4, count / 2, count.saturating_sub(1)] {
+        let mut next = case.clone();
+        next.operations.truncate(kept);
+        all.push(next);
+    }
+    for index in 0..count {
+        let mut next = case.clone();
+        next.operations.remove(index);
+        all.push(next);
+    }
+    all
+}
+
+/// The same case without its last slot, if all lengths fit the slots.
+fn fewer_slots(case: &Case) -> Option<Case> {
+    let setup = &case.setup;
+    let slots = setup.slot_count();
+    let words = slots * WORDS_PER_SLOT;
+    let fits = setup.statuses == slots && setup.live_words == words;
+    if slots < 2 || !fits || setup.defaults.len() != words {
+        return None;
+    }
+    let mut next = case.clone();
+    next.setup.slots -= 1;
+    next.setup.statuses -= 1;
+    next.setup.live_words -= WORDS_PER_SLOT;
+    next.setup.defaults.truncate(words - WORDS_PER_SLOT);
+    for operation in &mut next.operations {
+        if let Operation::Lend(state) = operation {
+            state.statuses.pop();
+            state.live.truncate(words - WORDS_PER_SLOT);
+        }
+    }
+    Some(next)
+}
+
+/// The same case with a shorter queue.
+fn fewer_cells(case: &Case) -> Vec<Case> {
+    let count = case.setup.cells;
+    let shorter = [1, 2, count / 2, count.saturating_sub(1)];
+    let shorter = shorter.into_iter().filter(|cells| (1..count).contains(cells));
+    let cut = |cells: usize| {
+        changed(case, |next| {
+            next.setup.cells = cells;
+            for operation in &mut next.operations {
+                if let Operation::Lend(state) = operation {
+                    state.cells.truncate(cells);
+                }
+            }
+        })
+    };
+    shorter.map(cut).collect()
+}
+
+fn simpler_operations(operation: &Operation) -> Vec<Operation> {
+    match operation {
+        Operation::SetUp => Vec::new(),
+        Operation::Feed { room, input } => simpler_feeds(*room, input),
+        Operation::Lend(state) => {
+            let states = simpler_states(state).into_iter();
+            states.map(|state| Operation::Lend(Box::new(state))).collect()
+        }
+    }
+}
+
+fn simpler_feeds(room: u16, input: &[u8]) -> Vec<Operation> {
+    let records = split_records(input);
+    let mut inputs = Vec::new();
+    let mut run = records.len();
+    while run > 0 {
+        for from in (0..records.len()).step_by(run) {
+            let to = (from + run).min(records.len());
+            inputs.push([&records[..from], &records[to..]].concat().concat());
+        }
+        run /= 2;
+    }
+    for from in 0..input.len() {
+        inputs.push([&input[..from], &input[from + 1..]].concat());
+    }
+    let mut all: Vec<Operation> =
+        inputs.into_iter().map(|input| Operation::Feed { room, input }).collect();
+    let needed = (records.len() * 8) as u16;
+    for smaller in [0, 8, needed, room / 2] {
+        if smaller < room {
+            all.push(Operation::Feed { room: smaller, input: input.to_vec() });
+        }
+    }
+    all
+}
+
+fn changed<T: Clone>(from: &T, change: impl FnOnce(&mut T)) -> T {
+    let mut next = from.clone();
+    change(&mut next);
+    next
+}
+
+/// The same state with its clock at 0 and all times moved along.
+fn at_clock_0(state: &mut State) {
+    let clock = state.port.clock.0;
+    let moved = |time: Nanos| Nanos(time.0.saturating_sub(clock));
+    for status in &mut state.statuses {
+        if let Status::Pending { cause, ready } = status {
+            *ready = moved(*ready);
+            if let Cause::Flr { end } = cause {
+                *end = moved(*end);
+            }
+        }
+    }
+    state.port.clock = Nanos(0);
+}
+
+fn simpler_states(state: &State) -> Vec<State> {
+    let mut all = vec![
+        changed(state, |next| next.live.fill(0)),
+        changed(state, at_clock_0),
+        changed(state, |next| next.cells.fill(0)),
+        changed(state, |next| next.port = Port::zero()),
+        changed(state, |next| next.port.carried = [0; 16]),
+        changed(state, |next| next.port.carried_count = 0),
+        changed(state, |next| (next.port.start, next.port.depth) = (0, 0)),
+        changed(state, |next| next.port.visibility = false),
+        changed(state, |next| next.port.frs_interrupt = false),
+        changed(state, |next| next.port.received = false),
+        changed(state, |next| next.port.overflow = false),
+        changed(state, |next| next.port.drs_received = false),
+        changed(state, |next| next.port.signalling = 0),
+        changed(state, |next| next.port.owed = false),
+    ];
+    for slot in 0..state.statuses.len() {
+        all.push(changed(state, |next| next.statuses[slot] = Status::Ready));
+    }
+    for index in (0..state.live.len()).filter(|index| state.live[*index] != 0) {
+        all.push(changed(state, |next| next.live[index] = 0));
+    }
+    all
+}
+
+fn simpler_setups(case: &Case) -> Vec<Case> {
+    let mut all = vec![
+        changed(case, |next| next.setup.defaults.fill(0)),
+        changed(case, |next| next.setup.entries = [SlotEntry::ZERO; MOST_SLOTS]),
+        changed(case, |next| {
+            let slots = next.setup.slot_count().min(MOST_SLOTS);
+            next.setup.entries[slots..].fill(SlotEntry::ZERO);
+        }),
+        changed(case, |next| next.setup.bus = 0),
+        changed(case, |next| next.setup.port_id = 0),
+    ];
+    for slot in 0..case.setup.slot_count().min(MOST_SLOTS) {
+        let entry = case.setup.entries[slot];
+        let simpler = [
+            SlotEntry::ZERO,
+            SlotEntry { reset: Code(0), ..entry },
+            SlotEntry { dl_up: Code(0), ..entry },
+            SlotEntry { flr: Code(0), ..entry },
+            SlotEntry { d3hot: Code(0), ..entry },
+            SlotEntry { sends_frs: false, ..entry },
+        ];
+        for entry in simpler {
+            all.push(changed(case, |next| next.setup.entries[slot] = entry));
+        }
+    }
+    let defaults = &case.setup.defaults;
+    for index in (0..defaults.len()).filter(|index| defaults[*index] != 0) {
+        all.push(changed(case, |next| next.setup.defaults[index] = 0));
+    }
+    all
+}
+
+#[cfg(test)]
+mod tests {
+    use super::*;
+    use crate::faults::Fault;
+    use crate::generate;
+    use crate::run::run_case;
+
+    #[test]
+    fn a_shrunk_case_still_differs_and_is_small() {
+        let fault = Fault::DropSetsReceived;
+        let differs = |case: &Case| run_case(case, fault) != run_case(case, Fault::None);
+        let found = (0..2000).map(|number| generate::case(1, number)).find(|case| differs(case));
+        let small = shrink(found.expect("the fault shows"), 3000, differs);
+        assert!(differs(&small));
+        assert!(small.operations.len() <= 2);
+        assert_eq!(small.setup.slots, 1);
+    }
+}

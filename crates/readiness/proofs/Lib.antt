@@ -1,0 +1,9 @@
+pub mod Examples
+pub mod Order
+pub mod Scenes
+pub mod Laws
+pub mod TwoAdvances
+pub mod Messages
+pub mod Scan
+pub mod Settling
+pub mod Statuses

@@ -1,0 +1,238 @@
+-- Two advances are one, and an advance is as many advances by one nanosecond.
+-- Assumes nothing.
+use Prim.Native.Nat.{ℕ, zero, suc, _+_, _≤_, min}
+use native.Mathlib.Omega.{arith}
+use mathlib.Core.Bool.{Bool, true, false, _&&_, _||_, cond, false≢true}
+use mathlib.Core.List.{List, []}
+use mathlib.Core.Path.{_≡_, refl, sym, ap, _∙_, subst}
+use lib.Dec.{leb}
+use lib.ListN.{length}
+use borrow.Author.Tests.{leb-true, leb-false}
+use Rattle.times.specs.declared.Nanos.{Nanos}
+use Rattle.times.specs.Moments.{greatestNanos, sumOf}
+use Rattle.frs_queue.specs.declared.Tally.{Tally}
+use Rattle.frs_queue.specs.Queue.{noTally}
+use Rattle.frs_queue.proofs.Tallies.{Shown, plus-none-right, counted-plain}
+use Rattle.readiness.specs.declared.Status.{Status}
+use Rattle.readiness.specs.declared.Setup.{Setup}
+use Rattle.readiness.specs.Status.{allReady}
+use Rattle.readiness.specs.Events.{Event, due}
+use Rattle.readiness.specs.Settle.{Scene, happenAll, drsDue, tells, settles, atClock, advances}
+use Rattle.readiness.proofs.Order.{readyBy, due-ready, due-split, due-all-ready}
+use Rattle.readiness.proofs.Scenes.{Kept, happenAll-is, happenAll-append, told, tells-statuses, tells-kept, happenAll-kept, settled-kept, happenAll-at, tells-at, since, fresh, settles-since, settles-shown}
+use Rattle.readiness.proofs.Laws.{tells-drs, settle-rest, settled-due, settled-drs, settle-counts, padded, settle-padded}
+
+-- ---- moments
+
+sum-min : (t d : Nanos) → sumOf t d .0 ≡ min (t .0 + d .0) greatestNanos
+unfolding sumOf
+sum-min t d = by (leb (t .0 + d .0) greatestNanos) refl
+  where
+    by : (b : Bool) → leb (t .0 + d .0) greatestNanos ≡ b → cond b (t .0 + d .0) greatestNanos ≡ min (t .0 + d .0) greatestNanos
+    by true e = omega (arith, leb-true (t .0 + d .0) greatestNanos e)
+    by false e = omega (arith, leb-false (t .0 + d .0) greatestNanos e)
+
+-- two times together
+abbrev pub together : Nanos → Nanos → Nanos
+together a b = record { 0 = a .0 + b .0 }
+
+-- first a and then b is their sum
+pub sum-together : (t a b : Nanos) → sumOf (sumOf t a) b ≡ sumOf t (together a b)
+sum-together t a b =
+    let e : sumOf (sumOf t a) b .0 ≡ sumOf t (together a b) .0 = omega (arith, sum-min t a, sum-min (sumOf t a) b, sum-min t (together a b)) in
+    ap (λ (n : ℕ). record { 0 = n }) e
+
+sum-most : (t d : Nanos) → sumOf t d .0 ≤ greatestNanos
+sum-most t d = omega (arith, sum-min t d)
+
+sum-later : (t d : Nanos) → t .0 ≤ greatestNanos → t .0 ≤ sumOf t d .0
+sum-later t d h = omega (arith, sum-min t d)
+
+sum-none : (t : Nanos) → t .0 ≤ greatestNanos → sumOf t (record { 0 = 0 }) ≡ t
+sum-none t h =
+    let e : sumOf t (record { 0 = 0 }) .0 ≡ t .0 = omega (arith, sum-min t (record { 0 = 0 })) in
+    ap (λ (n : ℕ). record { 0 = n }) e
+
+-- ---- settling at a moment, and then at a later one
+
+tells-quiet : (setup : Setup) (x : Scene) → drsDue x ≡ false → tells setup x ≡ x
+unfolding tells
+tells-quiet setup x e = ap (λ (b : Bool). cond b (told setup x) x) e
+
+-- a DRS that is told before events which then can't happen is told after them
+tells-before : (setup : Setup) (es : List Event) (x : Scene) → (drsDue x ≡ true → es ≡ []) → tells setup (happenAll setup es (tells setup x)) ≡ tells setup (happenAll setup es x)
+unfolding happenAll
+tells-before setup es x f = by (drsDue x) refl
+  where
+    by : (b : Bool) → drsDue x ≡ b → tells setup (happenAll setup es (tells setup x)) ≡ tells setup (happenAll setup es x)
+    by true e =
+        let none = f e in
+        ap (λ (v : List Event). tells setup (happenAll setup v (tells setup x))) none
+        ∙ tells-quiet setup (tells setup x) (tells-drs setup x)
+        ∙ sym (ap (λ (v : List Event). tells setup (happenAll setup v x)) none)
+    by false e = ap (λ (y : Scene). tells setup (happenAll setup es y)) (tells-quiet setup x e)
+
+owed-ready : (a b : Bool) → (a && b) ≡ true → b ≡ true
+owed-ready true b e = e
+owed-ready false b e = absurd (false≢true e)
+
+-- Settling at a moment and then at a later one is settling at the later one.
+pub settle-later : (setup : Setup) (t later : Nanos) (x : Scene) → t .0 ≤ later .0 → settles setup (atClock later (settles setup (atClock t x))) ≡ settles setup (atClock later x)
+unfolding settles
+settle-later setup t later x h =
+    ap (settles setup) (tells-at setup later (happenAll setup first (atClock t x)) ∙ ap (tells setup) (happenAll-at setup later first (atClock t x)))
+    ∙ ap (λ (c : Nanos). tells setup (happenAll setup (due c (tells setup z .statuses)) (tells setup z))) clock
+    ∙ ap (λ (l : List Status). tells setup (happenAll setup (due later l) (tells setup z))) (tells-statuses setup z ∙ statuses)
+    ∙ tells-before setup then z (λ e. due-all-ready 0 later (readyBy t (x .statuses)) (ap allReady (sym statuses) ∙ owed-ready (z .root .dev .owed) (allReady (z .statuses)) e))
+    ∙ ap (tells setup) (sym (happenAll-append setup first then (atClock later x)) ∙ ap (λ (es : List Event). happenAll setup es (atClock later x)) (sym (due-split 0 t later h (x .statuses))))
+  where
+    -- what is due by the first moment, and what is due then by the later one
+    first : List Event
+    first = due t (x .statuses)
+
+    then : List Event
+    then = due later (readyBy t (x .statuses))
+
+    z : Scene
+    z = happenAll setup first (atClock later x)
+
+    clock : tells setup z .root .dev .clock ≡ later
+    clock = tells-kept setup z .clock ∙ happenAll-kept setup first (atClock later x) .clock
+
+    statuses : z .statuses ≡ readyBy t (x .statuses)
+    statuses = ap (λ (y : Scene). y .statuses) (happenAll-is setup first (atClock later x)) ∙ due-ready t (x .statuses)
+
+-- ---- advances
+
+-- One advance after the other, in one record, is one by the sum.
+pub advances-together : (setup : Setup) (a b : Nanos) (x : Scene) → advances setup b (advances setup a x) ≡ advances setup (together a b) x
+unfolding advances
+advances-together setup a b x =
+    let t = x .root .dev .clock in
+    let first = settles setup (atClock (sumOf t a) x) in
+    ap (λ (c : Nanos). settles setup (atClock (sumOf c b) first)) (settled-kept setup (atClock (sumOf t a) x) .clock)
+    ∙ settle-later setup (sumOf t a) (sumOf (sumOf t a) b) x (sum-later (sumOf t a) b (sum-most t a))
+    ∙ ap (λ (c : Nanos). settles setup (atClock c x)) (sum-together t a b)
+
+-- An advance moves the clock, and keeps the number of slots and of cells, the link and the control bits.
+pub advances-keep : (setup : Setup) (d : Nanos) (x : Scene) → Kept (atClock (sumOf (x .root .dev .clock) d) x) (advances setup d x)
+unfolding advances
+advances-keep setup d x = settled-kept setup (atClock (sumOf (x .root .dev .clock) d) x)
+
+-- What an advance does and brings does not depend on what was brought before it.
+pub advances-since : (setup : Setup) (e : Tally) (d : Nanos) (x : Scene) → advances setup d (since e x) ≡ since e (advances setup d x)
+unfolding advances
+advances-since setup e d x = settles-since setup e (atClock (sumOf (x .root .dev .clock) d) x)
+
+advances-shown : (setup : Setup) (d : Nanos) (x : Scene) → Shown (x .root .tally) → Shown (advances setup d x .root .tally)
+unfolding advances
+advances-shown setup d x h = settles-shown setup (atClock (sumOf (x .root .dev .clock) d) x) h
+
+since-fresh : (x : Scene) → Shown (x .root .tally) → since (x .root .tally) (fresh x) ≡ x
+since-fresh x h =
+    ap (λ (t : Tally). record { statuses = x .statuses; root = record { dev = x .root .dev; cells = x .root .cells; tally = t } }) (plus-none-right (x .root .tally) h)
+
+-- Two advances, each a record of its own, are one by the sum: the second's end, where what the first brought came before.
+pub advances-add : (setup : Setup) (a b : Nanos) (x : Scene) → Shown (x .root .tally)
+    → (let first = advances setup a x in advances setup (together a b) x ≡ since (first .root .tally) (advances setup b (fresh first)))
+advances-add setup a b x h =
+    let first = advances setup a x in
+    sym (advances-together setup a b x)
+    ∙ ap (advances setup b) (sym (since-fresh first (advances-shown setup a x h)))
+    ∙ advances-since setup (first .root .tally) b (fresh first)
+
+-- the whole is the second's end but for the tally; counts add up, and interrupts are the or
+pub record Adds (whole first second : Scene) : Type 0 where
+  pub same : fresh whole ≡ fresh second
+  pub queued : whole .root .tally .queued ≡ first .root .tally .queued + second .root .tally .queued
+  pub dropped : whole .root .tally .dropped ≡ first .root .tally .dropped + second .root .tally .dropped
+  pub received : whole .root .tally .received ≡ (first .root .tally .received || second .root .tally .received)
+  pub overflow : whole .root .tally .overflow ≡ (first .root .tally .overflow || second .root .tally .overflow)
+  pub drs : whole .root .tally .drs ≡ (first .root .tally .drs || second .root .tally .drs)
+
+-- an advance brings at most 33 messages
+advances-counts : (setup : Setup) (d : Nanos) (x : Scene) → length (x .statuses) ≤ 32 → x .root .tally ≡ noTally
+    → advances setup d x .root .tally .queued + advances setup d x .root .tally .dropped ≤ 33
+unfolding advances
+advances-counts setup d x h e = settle-counts setup (atClock (sumOf (x .root .dev .clock) d) x) h e
+
+advances-slots : (setup : Setup) (d : Nanos) (x : Scene) → length (advances setup d x .statuses) ≡ length (x .statuses)
+advances-slots setup d x = advances-keep setup d x .slots
+
+none-shown : (t : Tally) → t ≡ noTally → Shown t
+none-shown t e = subst Shown (sym e) (record { queued = omega arith; dropped = omega arith })
+
+-- Two advances are one: the state after a and then b is the state after a + b, queued and dropped counts add up, interrupts are the or.
+pub two-advances : (setup : Setup) (a b : Nanos) (x : Scene) → length (x .statuses) ≤ 32 → x .root .tally ≡ noTally
+    → Adds (advances setup (together a b) x) (advances setup a x) (advances setup b (fresh (advances setup a x)))
+two-advances setup a b x h n =
+    let first = advances setup a x in
+    let second = advances setup b (fresh first) in
+    let e = advances-add setup a b x (none-shown (x .root .tally) n) in
+    let few = advances-counts setup a x h n in
+    let slots : length (first .statuses) ≤ 32 = omega (arith, advances-slots setup a x) in
+    let more = advances-counts setup b (fresh first) slots refl in
+    record {
+      same = ap fresh e;
+      queued = ap (λ (y : Scene). y .root .tally .queued) e ∙ counted-plain (first .root .tally .queued) (second .root .tally .queued) (omega arith);
+      dropped = ap (λ (y : Scene). y .root .tally .dropped) e ∙ counted-plain (first .root .tally .dropped) (second .root .tally .dropped) (omega arith);
+      received = ap (λ (y : Scene). y .root .tally .received) e;
+      overflow = ap (λ (y : Scene). y .root .tally .overflow) e;
+      drs = ap (λ (y : Scene). y .root .tally .drs) e;
+    }
+
+-- one nanosecond
+abbrev pub nano : Nanos
+nano = record { 0 = 1 }
+
+-- d advances by one nanosecond, each a record of its own: the last one's end, where the others' tallies came before
+unfoldable pub nanoByNano : Setup → ℕ → Scene → Scene
+nanoByNano setup zero x = x
+nanoByNano setup (suc d) x =
+    let first = advances setup nano x in
+    since (first .root .tally) (nanoByNano setup d (fresh first))
+
+-- a scene at rest, at a moment that a clock can show
+pub record Rests (x : Scene) : Type 0 where
+  pub due : due (x .root .dev .clock) (x .statuses) ≡ []
+  pub drs : drsDue x ≡ false
+  pub clock : x .root .dev .clock .0 ≤ greatestNanos
+
+advances-rests : (setup : Setup) (d : Nanos) (x : Scene) → Rests (fresh (advances setup d x))
+unfolding advances
+advances-rests setup d x =
+    let y = atClock (sumOf (x .root .dev .clock) d) x in
+    record {
+      due = settled-due setup y;
+      drs = settled-drs setup y;
+      clock = omega (arith, ap (λ (t : Nanos). t .0) (settled-kept setup y .clock), sum-most (x .root .dev .clock) d);
+    }
+
+advances-none : (setup : Setup) (x : Scene) → Rests x → advances setup (record { 0 = 0 }) x ≡ x
+unfolding advances
+advances-none setup x r = ap (λ (t : Nanos). settles setup (atClock t x)) (sum-none (x .root .dev .clock) (r .clock)) ∙ settle-rest setup x (r .due) (r .drs)
+
+one-more : (setup : Setup) (d : ℕ) (x : Scene) → Shown (x .root .tally)
+    → (let then = fresh (advances setup nano x) in advances setup (record { 0 = d }) then ≡ nanoByNano setup d then)
+    → advances setup (record { 0 = suc d }) x ≡ nanoByNano setup (suc d) x
+unfolding nanoByNano
+one-more setup d x h rest =
+    let n : 1 + d ≡ suc d = omega arith in
+    ap (λ (k : ℕ). advances setup (record { 0 = k }) x) (sym n)
+    ∙ advances-add setup nano (record { 0 = d }) x h
+    ∙ ap (since (advances setup nano x .root .tally)) rest
+
+-- An advance by d is d advances by 1: what becomes Ready on the way happens at the exact moment. An advance by 0 is none where the scene is at rest;
+pub by-one-rests : (setup : Setup) (d : ℕ) (x : Scene) → Rests x → Shown (x .root .tally) → advances setup (record { 0 = d }) x ≡ nanoByNano setup d x
+unfolding nanoByNano
+by-one-rests setup zero x r h = advances-none setup x r
+by-one-rests setup (suc d) x r h = one-more setup d x h (by-one-rests setup d (fresh (advances setup nano x)) (advances-rests setup nano x) (none-shown noTally refl))
+
+-- any other asks nothing of the scene.
+pub by-one : (setup : Setup) (d : ℕ) (x : Scene) → Shown (x .root .tally) → advances setup (record { 0 = suc d }) x ≡ nanoByNano setup (suc d) x
+by-one setup d x h = one-more setup d x h (by-one-rests setup d (fresh (advances setup nano x)) (advances-rests setup nano x) (none-shown noTally refl))
+
+-- Advances never see the slots past the card's.
+pub advances-padded : (setup : Setup) (n : ℕ) (d : Nanos) (x : Scene) → advances setup d (padded n x) ≡ padded n (advances setup d x)
+unfolding advances
+advances-padded setup n d x = settle-padded setup n (atClock (sumOf (x .root .dev .clock) d) x)

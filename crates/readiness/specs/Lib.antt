@@ -1,0 +1,5 @@
+pub mod Status
+pub mod Root
+pub mod Events
+pub mod Next
+pub mod Settle

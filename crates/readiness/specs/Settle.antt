@@ -1,0 +1,89 @@
+-- What happens as slots become Ready, and as the clock advances (01, "Readiness").
+-- Assumes nothing.
+use Prim.Native.Nat.{ℕ}
+use mathlib.Core.Bool.{Bool, true, false, _&&_, cond}
+use mathlib.Core.List.{List, [], _∷_, _++_}
+use lib.ListN.{set}
+use Rattle.times.specs.declared.Nanos.{Nanos}
+use Rattle.times.specs.Moments.{sumOf}
+use Rattle.frs_queue.specs.declared.Frs.{Frs}
+use Rattle.readiness.specs.declared.Status.{Status}
+use Rattle.readiness.specs.declared.Slot.{Slot}
+use Rattle.readiness.specs.declared.Setup.{Setup}
+use Rattle.readiness.specs.declared.Settled.{Settled}
+use Rattle.readiness.specs.declared.SlotSettled.{SlotSettled}
+use Rattle.readiness.specs.Status.{ready, allReady}
+use Rattle.readiness.specs.Root.{Root, root, frsArrive, drsArrives, nothingOwed, frsOfDrs}
+use Rattle.readiness.specs.Events.{Event, dueEvent, due, frsOfSlot, frsOf}
+
+-- the slot statuses and the root port
+pub record Scene : Type 0 where
+  pub statuses : List Status
+  pub root : Root
+
+abbrev pub scene : List ℕ → Settled → Scene
+scene cells s = record { statuses = s .statuses; root = root cells (s .port) }
+
+-- a slot becomes Ready, and its FRS, if any, arrives
+unfoldable pub happens : Setup → Event → Scene → Scene
+happens setup e x = record { statuses = set (x .statuses) (e .slot) ready; root = frsArrive (frsOf setup e) (x .root) }
+
+unfoldable pub happenAll : Setup → List Event → Scene → Scene
+happenAll setup [] x = x
+happenAll setup (e ∷ es) x = happenAll setup es (happens setup e x)
+
+-- a DRS is owed and all slots are Ready
+abbrev pub drsDue : Scene → Bool
+drsDue x = x .root .dev .owed && allReady (x .statuses)
+
+-- then DRS Received is set and nothing is owed
+unfoldable pub tells : Setup → Scene → Scene
+tells setup x =
+    cond (drsDue x) (record { statuses = x .statuses; root = nothingOwed (drsArrives (setup .«port_id») (x .root)) }) x
+
+-- slots whose ready time is at or before the clock become Ready in order; after that moment's FRS, the DRS
+unfoldable pub settles : Setup → Scene → Scene
+settles setup x = tells setup (happenAll setup (due (x .root .dev .clock) (x .statuses)) x)
+
+-- the clock moves
+abbrev pub atClock : Nanos → Scene → Scene
+atClock t x =
+    let d = x .root .dev in
+    record {
+      statuses = x .statuses;
+      root = record {
+        dev = record { clock = t; link = d .link; owed = d .owed; «drs_received» = d .«drs_received»; control = d .control; queue = d .queue };
+        cells = x .root .cells;
+        tally = x .root .tally;
+      };
+    }
+
+-- the clock advances by so many nanoseconds, and what becomes Ready on the way happens at its moment
+unfoldable pub advances : Setup → Nanos → Scene → Scene
+advances setup by x = settles setup (atClock (sumOf (x .root .dev .clock) by) x)
+
+-- every FRS that settling sends, in order
+unfoldable pub framesOf : Setup → List Event → List Frs
+framesOf setup [] = []
+framesOf setup (e ∷ es) = frsOf setup e ++ framesOf setup es
+
+unfoldable pub frsSent : Setup → Scene → List Frs
+frsSent setup x =
+    let events = due (x .root .dev .clock) (x .statuses) in
+    framesOf setup events ++ cond (drsDue (happenAll setup events x)) (frsOfDrs (setup .«port_id») (x .root .dev)) []
+
+-- one slot's status and the root port
+pub record SlotScene : Type 0 where
+  pub status : Status
+  pub root : Root
+
+abbrev pub slotScene : List ℕ → SlotSettled → SlotScene
+slotScene cells s = record { status = s .status; root = root cells (s .port) }
+
+-- one slot becomes Ready if its ready time is at or before the clock, and its FRS, if any, arrives
+abbrev pub slotHappens : (bus : ℕ) → Slot → SlotScene → List Event → SlotScene
+slotHappens bus entry x [] = x
+slotHappens bus entry x (e ∷ es) = record { status = ready; root = frsArrive (frsOfSlot bus entry (e .slot) (e .cause)) (x .root) }
+
+unfoldable pub slotSettles : (bus : ℕ) → Slot → (slot : ℕ) → SlotScene → SlotScene
+slotSettles bus entry slot x = slotHappens bus entry x (dueEvent (x .root .dev .clock) slot (x .status .phase))

@@ -1,0 +1,12 @@
+pub mod Tests
+pub mod Lists
+pub mod Cutting
+pub mod Feeding
+pub mod Records
+pub mod Gathering
+pub mod OneCall
+pub mod Refusing
+pub mod Theorem
+pub mod Loop
+pub mod Examples
+pub mod Laws

@@ -1,0 +1,73 @@
+-- Laws of bytes with zeros after them, of carried bytes with an input after them, and of lists of bytes.
+-- Assumes nothing.
+use Prim.Native.Nat.{ℕ, zero, suc, _+_, _-_, _≤_, _<_}
+use mathlib.Core.Path.{_≡_, ap, sym, _∙_}
+use mathlib.Core.List.{List, [], _∷_, _++_}
+use native.Mathlib.Omega.{arith}
+use native.Mathlib.Numerals.{add-one}
+use lib.ListN.{length, getD, take, drop, set, replicate, length-append, length-replicate, List·getD-append}
+use lib.Seq.{take-append-seam, set-append-seam, append-snoc, length-take-le, getD-append-add, drop-append-add, getD-take, take-suc}
+use Rattle.trace.specs.Format.{pad, Bytes}
+
+-- ---- bytes with zeros after them
+pub length-pad : (m : ℕ) (c : List ℕ) → length c ≤ m → length (pad m c) ≡ m
+length-pad m c h = length-append c _ ∙ rw length-replicate (omega arith)
+
+pub take-pad : (m : ℕ) (c : List ℕ) → take (length c) (pad m c) ≡ c
+take-pad m c = take-append-seam c _
+
+-- one more byte after those of bs that are there
+pub pad-more : (m : ℕ) (bs : List ℕ) (j : ℕ) → j < m → j < length bs → set (pad m (take j bs)) j (getD bs j 0) ≡ pad m (take (j + 1) bs)
+pad-more m bs j h k =
+    let c = take j bs in
+    let n : length c ≡ j = length-take-le j bs (omega arith) in
+    let b = getD bs j 0 in
+    let e : m - length c ≡ suc (m - length (c ++ b ∷ [])) = omega (arith, length-append c (b ∷ [])) in
+    ap (λ (i : ℕ). set (pad m c) i b) (sym n)
+    ∙ ap (λ (i : ℕ). set (c ++ replicate i 0) (length c) b) e
+    ∙ set-append-seam c 0 (replicate (m - length (c ++ b ∷ [])) 0) b
+    ∙ sym (append-snoc c b (replicate (m - length (c ++ b ∷ [])) 0))
+    ∙ ap (pad m) (sym (take-suc bs j 0 k) ∙ ap (λ (i : ℕ). take i bs) (sym (add-one j)))
+
+-- ---- what is carried, and then the input
+pub joined-carried : (c input : List ℕ) (len j : ℕ) → j < len → len ≤ length c → getD c j 0 ≡ getD (take len c ++ input) j 0
+joined-carried c input len j h k =
+    sym (List·getD-append (take len c) input 0 j (omega (arith, length-take-le len c k)) ∙ getD-take len c j 0 h)
+
+pub joined-input : (c input : List ℕ) (len j : ℕ) → len ≤ j → len ≤ length c → getD input (j - len) 0 ≡ getD (take len c ++ input) j 0
+joined-input c input len j h k =
+    let e : length (take len c) + (j - len) ≡ j = omega (arith, length-take-le len c k) in
+    sym (ap (λ (i : ℕ). getD (take len c ++ input) i 0) (sym e) ∙ getD-append-add (take len c) input (j - len) 0)
+
+pub length-joined : (c input : List ℕ) (len : ℕ) → len ≤ length c → length (take len c ++ input) ≡ len + length input
+length-joined c input len k = omega (arith, length-append (take len c) input, length-take-le len c k)
+
+pub drop-joined : (c input : List ℕ) (len at : ℕ) → len ≤ at → len ≤ length c → drop at (take len c ++ input) ≡ drop (at - len) input
+drop-joined c input len at h k =
+    let e : at ≡ length (take len c) + (at - len) = omega (arith, length-take-le len c k) in
+    ap (λ (n : ℕ). drop n (take len c ++ input)) e ∙ drop-append-add (take len c) input (at - len)
+
+-- ---- lists of bytes
+-- each element below 256, as code knows it of a slice or an array
+pub bytes-of : (l : List ℕ) → ((i : ℕ) → i < length l → getD l i 0 < 256) → Bytes l
+bytes-of [] h = tt
+bytes-of (b ∷ bs) h = (h 0 (omega arith), bytes-of bs (λ i j. h (suc i) (omega arith)))
+
+pub byte-at : (l : List ℕ) (i : ℕ) → Bytes l → getD l i 0 < 256
+byte-at [] i h = omega arith
+byte-at (b ∷ bs) zero h = h .0
+byte-at (b ∷ bs) (suc i) h = byte-at bs i (h .1)
+
+pub bytes-append : (a b : List ℕ) → Bytes a → Bytes b → Bytes (a ++ b)
+bytes-append [] b h j = j
+bytes-append (x ∷ a) b h j = (h .0, bytes-append a b (h .1) j)
+
+pub bytes-take : (n : ℕ) (l : List ℕ) → Bytes l → Bytes (take n l)
+bytes-take zero l h = tt
+bytes-take (suc n) [] h = tt
+bytes-take (suc n) (b ∷ bs) h = (h .0, bytes-take n bs (h .1))
+
+pub bytes-drop : (n : ℕ) (l : List ℕ) → Bytes l → Bytes (drop n l)
+bytes-drop zero l h = h
+bytes-drop (suc n) [] h = tt
+bytes-drop (suc n) (b ∷ bs) h = bytes-drop n bs (h .1)

@@ -1,0 +1,14 @@
+pub mod Examples
+pub mod Leaving
+pub mod Numbers
+pub mod Laws
+pub mod Queued
+pub mod SoundFacts
+pub mod Resting
+pub mod Parted
+pub mod QueueKept
+pub mod SlotsKept
+pub mod Kept
+pub mod Settled
+pub mod Keeping
+pub mod Padded

@@ -1,0 +1,343 @@
+-- A record by the part of the state that it touches: on a sound state, running it is running it on that part alone, put back.
+-- Assumes nothing.
+use Prim.Native.Nat.{ℕ, _/_, _%_, _<_}
+use native.Mathlib.Omega.{arith}
+use mathlib.Core.Path.{_≡_, refl, ap, sym, _∙_}
+use mathlib.Core.Bool.{Bool, true, false, not, _||_, cond, false≢true}
+use mathlib.Core.List.{List}
+use lib.Dec.{eqb, ltb}
+use lib.ListN.{length}
+use lib.Seq.{set-getD}
+use borrow.Author.Tests.{ltb-true, not-false}
+use Rattle.times.specs.declared.Nanos.{Nanos}
+use Rattle.messages.specs.declared.Message.{Message}
+use Rattle.messages.specs.declared.Message.the-variants.{Drs, Frs, NotReadiness}
+use Rattle.registers.specs.declared.Kind.{Kind}
+use Rattle.registers.specs.Rows.{startsFlr}
+use Rattle.registers.specs.Words.{writeWord}
+use Rattle.frs_queue.specs.Queue.{noTally}
+use Rattle.readiness.specs.declared.Cause.{Cause}
+use Rattle.readiness.specs.declared.Cause.the-variants as cause
+use Rattle.readiness.specs.declared.Phase.{Phase}
+use Rattle.readiness.specs.declared.Phase.the-variants.{Down, Pending, Ready}
+use Rattle.readiness.specs.declared.Status.{Status}
+use Rattle.readiness.specs.declared.Slot.{Slot}
+use Rattle.readiness.specs.declared.Setup.{Setup}
+use Rattle.readiness.specs.declared.Dev.{Dev}
+use Rattle.readiness.specs.Status.{ready, readyPhase, isReady, entryOf}
+use Rattle.readiness.specs.Root.{frsArrive, drsArrives, drsSet}
+use Rattle.readiness.specs.Settle.{Scene}
+use Rattle.readiness.proofs.Order.{either-way}
+use Rattle.readiness.proofs.Laws.{settle-rest, settle-one}
+use Rattle.records.specs.declared.Request.{Request}
+use Rattle.records.specs.declared.Record.{Record}
+use Rattle.records.specs.declared.Record.the-variants.{Advance, Read, Write, Message as MessageRecord, LinkUp, LinkDown, ColdReset, ReadQueue, RemoveOldest, ClearBits, Control, HardwareSet, ReadBits, NoKind}
+use Rattle.records.specs.declared.Completion.the-variants as completion
+use Rattle.records.specs.declared.Crs.{Crs}
+use Rattle.records.specs.declared.Route.{Route}
+use Rattle.records.specs.declared.Route.the-variants as route
+use Rattle.records.specs.declared.Part.the-variants.{OneSlot, PortAlone, WholeCard}
+use Rattle.records.specs.State.{State, Seat, seatOf, sceneOf, withLive, kindOf}
+use Rattle.records.specs.Answer.{Effect, refused, does, reply, answered}
+use Rattle.records.specs.Route.{pendingRoute, phaseRoute, routeOf, routeCompletion, refusedData, isAccess}
+use Rattle.records.specs.Requests.{wordAt, readDone, writeDone, startsD3hot, written, writeSeat, afterFlr, afterD3hot, readEffect, writeEffect, hardwareEffect}
+use Rattle.records.specs.PortRecords.{Front, messageDone, messageEffect, clearedDev, controlEffect}
+use Rattle.records.specs.Run.{atSlot, atPort, frontOf, effect, run}
+use Rattle.records.specs.Parts.{partAt, partOf, slotEffect, slotAnswered, slotRun, portEffect, portAnswered, portRun, cardEffect, cardRun, slotPut, portPut}
+use Rattle.records.specs.Sound.{Sound, Fitting}
+use Rattle.records.proofs.Resting.{Resting, sound-rests}
+
+-- ---- which part
+
+-- the three parts differ
+port-not-slot : {P : Type 0} {i : ℕ} → PortAlone ≡ OneSlot i → P
+port-not-slot e = let z : _≡_ {A = ℕ} 0 1 = cc in absurd (omega arith)
+
+card-not-slot : {P : Type 0} {i : ℕ} → WholeCard ≡ OneSlot i → P
+card-not-slot e = let z : _≡_ {A = ℕ} 0 1 = cc in absurd (omega arith)
+
+card-not-port : {P : Type 0} → WholeCard ≡ PortAlone → P
+card-not-port e = let z : _≡_ {A = ℕ} 0 1 = cc in absurd (omega arith)
+
+-- a request's part: its slot, if the card has it, else the port
+at-slot : (slots slot i : ℕ) → partAt slots slot ≡ OneSlot i → (slot < slots) × (slot ≡ i)
+at-slot slots slot i = by (ltb slot slots) refl
+  where
+    by : (b : Bool) → ltb slot slots ≡ b → cond b (OneSlot slot) PortAlone ≡ OneSlot i → (slot < slots) × (slot ≡ i)
+    by true e q = (ltb-true slot slots e, cc)
+    by false e q = port-not-slot q
+
+at-port : (slots slot : ℕ) → partAt slots slot ≡ PortAlone → ltb slot slots ≡ false
+at-port slots slot = by (ltb slot slots) refl
+  where
+    by : (b : Bool) → ltb slot slots ≡ b → cond b (OneSlot slot) PortAlone ≡ PortAlone → ltb slot slots ≡ false
+    by true e q = port-not-slot (sym q)
+    by false e q = e
+
+at-no-card : {P : Type 0} (slots slot : ℕ) → partAt slots slot ≡ WholeCard → P
+at-no-card {P} slots slot = by (ltb slot slots)
+  where
+    by : (b : Bool) → cond b (OneSlot slot) PortAlone ≡ WholeCard → P
+    by true q = card-not-slot (sym q)
+    by false q = card-not-port (sym q)
+
+-- what holds of a read, a write and a hardware set of slot i, which the card has, holds of every record that touches slot i
+at-one-slot : (P : Record → Type 0) (slots i : ℕ)
+    → ((q : Request) → q .slot < slots → q .slot ≡ i → P (Read q))
+    → ((q : Request) (value : ℕ) → q .slot < slots → q .slot ≡ i → P (Write q value))
+    → ((slot word mask : ℕ) → slot < slots → slot ≡ i → P (HardwareSet slot word mask))
+    → (r : Record) → partOf slots r ≡ OneSlot i → P r
+at-one-slot P slots i f g h (Read q) e = let l = at-slot slots (q .slot) i e in f q (l .0) (l .1)
+at-one-slot P slots i f g h (Write q value) e = let l = at-slot slots (q .slot) i e in g q value (l .0) (l .1)
+at-one-slot P slots i f g h (HardwareSet slot word mask) e = let l = at-slot slots slot i e in h slot word mask (l .0) (l .1)
+at-one-slot P slots i f g h (Advance by) e = card-not-slot e
+at-one-slot P slots i f g h LinkUp e = card-not-slot e
+at-one-slot P slots i f g h LinkDown e = card-not-slot e
+at-one-slot P slots i f g h ColdReset e = card-not-slot e
+at-one-slot P slots i f g h (MessageRecord m) e = port-not-slot e
+at-one-slot P slots i f g h ReadQueue e = port-not-slot e
+at-one-slot P slots i f g h RemoveOldest e = port-not-slot e
+at-one-slot P slots i f g h (ClearBits mask) e = port-not-slot e
+at-one-slot P slots i f g h (Control b) e = port-not-slot e
+at-one-slot P slots i f g h ReadBits e = port-not-slot e
+at-one-slot P slots i f g h NoKind e = port-not-slot e
+
+-- A record that touches slot i touches one that the card has.
+pub part-below : (slots i : ℕ) (r : Record) → partOf slots r ≡ OneSlot i → i < slots
+part-below slots i = at-one-slot (λ r. i < slots) slots i (λ q l e. omega arith) (λ q value l e. omega arith) (λ slot word mask l e. omega arith)
+
+-- ---- a slot that there is not
+
+taken : {A : Type 0} (b : Bool) (x y : A) → b ≡ true → cond b x y ≡ x
+taken true x y e = refl
+taken false x y e = absurd (false≢true e)
+
+-- A read, a write or a hardware set of a slot that there is not is refused with 20.
+module _ (slots : ℕ) (kind : Kind) (z : Seat) where
+  pub no-slot-route : (isRead : Bool) (q : Request) → ltb (q .slot) slots ≡ false → routeOf slots (z .dev) (z .status) isRead q ≡ route.NoSlot
+  unfolding routeOf
+  no-slot-route isRead q e = taken (not (ltb (q .slot) slots)) route.NoSlot _ (ap not e)
+
+  pub no-slot-read : (q : Request) → ltb (q .slot) slots ≡ false → readEffect slots kind q z ≡ refused completion.NoSlot 0
+  unfolding readEffect
+  no-slot-read q e =
+      ap (λ (r : Route). cond (isAccess r) (readDone kind q z) (refused (routeCompletion r) (refusedData true (q .enables) r))) (no-slot-route true q e)
+
+  pub no-slot-write : (entry : Slot) (defaults : List ℕ) (q : Request) (value : ℕ) → ltb (q .slot) slots ≡ false
+      → writeEffect slots kind entry defaults q value z ≡ refused completion.NoSlot 0
+  unfolding writeEffect
+  no-slot-write entry defaults q value e =
+      ap (λ (r : Route). cond (isAccess r) (writeDone kind entry defaults q value z) (refused (routeCompletion r) (refusedData false (q .enables) r)))
+      (no-slot-route false q e)
+
+  pub no-slot-set : (slot word mask : ℕ) → ltb slot slots ≡ false → hardwareEffect slots kind slot word mask z ≡ refused completion.NoSlot 0
+  unfolding hardwareEffect
+  no-slot-set slot word mask e = taken (not (ltb slot slots)) (refused completion.NoSlot 0) _ (ap not e)
+
+-- ---- an access finds its slot Ready
+
+ready-phase : (p : Phase) → readyPhase p ≡ true → p ≡ Ready
+ready-phase Ready e = refl
+ready-phase Down e = absurd (false≢true e)
+ready-phase (Pending c t) e = absurd (false≢true e)
+
+pub ready-status : (s : Status) → isReady s ≡ true → s ≡ ready
+ready-status s e = ap (λ (p : Phase). record { phase = p }) (ready-phase (s .phase) e)
+
+pending-refused : (clock : Nanos) (c : Cause) (t : Nanos) (crs : Crs) → isAccess (pendingRoute clock c t crs) ≡ false
+unfolding pendingRoute
+pending-refused clock cause.LinkUp t crs = refl
+pending-refused clock cause.D3hot t crs = refl
+pending-refused clock (cause.Flr end) t crs =
+    either-way (λ (r : Route). isAccess r ≡ false) (ltb (clock .0) (end .0)) (route.FlrInProgress end) (route.Starting (cause.Flr end) t crs) (λ e. refl) (λ e. refl)
+
+phase-access : (clock : Nanos) (p : Phase) (crs : Crs) → isAccess (phaseRoute clock p crs) ≡ true → p ≡ Ready
+unfolding phaseRoute
+phase-access clock Down crs e = absurd (false≢true e)
+phase-access clock Ready crs e = refl
+phase-access clock (Pending c t) crs e = absurd (false≢true (sym (pending-refused clock c t crs) ∙ e))
+
+-- A request that has access finds its slot Ready.
+pub access-ready : (slots : ℕ) (dev : Dev) (status : Status) (isRead : Bool) (q : Request) → isAccess (routeOf slots dev status isRead q) ≡ true → status ≡ ready
+unfolding routeOf
+access-ready slots dev status isRead q =
+    either-way P (not (ltb (q .slot) slots)) route.NoSlot _ (λ t. no)
+    (λ t. either-way P (ltb 63 (q .word)) route.NoWord _ (λ t. no)
+    (λ t. either-way P (ltb 15 (q .enables)) route.BadEnables _ (λ t. no)
+    (λ t. either-way P (not (dev .link)) route.LinkDown _ (λ t. no)
+    (λ t e. ap (λ (p : Phase). record { phase = p }) (phase-access (dev .clock) (status .phase) _ e)))))
+  where
+    P : Route → Type 0
+    P r = isAccess r ≡ true → status ≡ ready
+
+    no : false ≡ true → status ≡ ready
+    no e = absurd (false≢true e)
+
+-- what a request does, if it is done, is done to a Ready slot and leaves the port
+abbrev pub SlotDoes : Seat → Effect Seat → Type 0
+SlotDoes z (refused c v) = Unit {0}
+SlotDoes z (does y tally v) = (z .status ≡ ready) × (y .dev ≡ z .dev)
+
+-- what holds of the slot after an FLR, after the way from D3hot and after any other write holds after a write
+pub write-cases : (P : Seat → Type 0) (kind : Kind) (entry : Slot) (defaults : List ℕ) (q : Request) (value : ℕ) (z : Seat)
+    → (let new = writeWord kind (q .word) (wordAt (z .live) (q .slot) (q .word)) value (q .enables) in
+    let w = written (q .slot) (q .word) new z in
+    P (afterFlr kind entry defaults (q .slot) w) → P (afterD3hot kind entry defaults (q .slot) new w) → P w → P (writeSeat kind entry defaults q value z))
+unfolding writeSeat
+write-cases P kind entry defaults q value z f d w =
+    let old = wordAt (z .live) (q .slot) (q .word) in
+    either-way P (startsFlr kind (q .word) value (q .enables) (wordAt defaults (q .slot) 0x1D)) _ _ (λ e. f)
+    (λ e. either-way P (startsD3hot (q .word) old (writeWord kind (q .word) old value (q .enables))) _ _ (λ e. d) (λ e. w))
+
+write-dev : (kind : Kind) (entry : Slot) (defaults : List ℕ) (q : Request) (value : ℕ) (z : Seat) → writeSeat kind entry defaults q value z .dev ≡ z .dev
+unfolding afterFlr afterD3hot
+write-dev kind entry defaults q value z = write-cases (λ (y : Seat). y .dev ≡ z .dev) kind entry defaults q value z refl refl refl
+
+module _ (slots : ℕ) (kind : Kind) (z : Seat) where
+  pub read-does : (q : Request) → SlotDoes z (readEffect slots kind q z)
+  unfolding readEffect
+  read-does q =
+      either-way (SlotDoes z) (isAccess (routeOf slots (z .dev) (z .status) true q)) _ _
+      (λ e. (access-ready slots (z .dev) (z .status) true q e, refl)) (λ e. tt)
+
+  pub write-does : (entry : Slot) (defaults : List ℕ) (q : Request) (value : ℕ) → SlotDoes z (writeEffect slots kind entry defaults q value z)
+  unfolding writeEffect
+  write-does entry defaults q value =
+      either-way (SlotDoes z) (isAccess (routeOf slots (z .dev) (z .status) false q)) _ _
+      (λ e. (access-ready slots (z .dev) (z .status) false q e, write-dev kind entry defaults q value z)) (λ e. tt)
+
+  pub set-does : (slot word mask : ℕ) → SlotDoes z (hardwareEffect slots kind slot word mask z)
+  unfolding hardwareEffect
+  set-does slot word mask =
+      either-way (SlotDoes z) (not (ltb slot slots)) _ _ (λ e. tt)
+      (λ e. either-way (SlotDoes z) (ltb 63 word) _ _ (λ e. tt)
+      (λ e. either-way (SlotDoes z) (not (isReady (z .status))) _ _ (λ e. tt)
+      (λ e. (ready-status (z .status) (not-false (isReady (z .status)) e), refl))))
+
+-- ---- a record of the port leaves clock and "owed"
+
+abbrev pub PortDoes : Front → Effect Front → Type 0
+PortDoes p (refused c v) = Unit {0}
+PortDoes p (does y tally v) = (y .dev .clock ≡ p .dev .clock) × (y .dev .owed ≡ p .dev .owed)
+
+message-does : (portId : ℕ) (m : Message) (p : Front) → PortDoes p (messageDone portId m p)
+unfolding messageDone drsArrives drsSet frsArrive
+message-does portId NotReadiness p = tt
+message-does portId (Drs id) p = (refl, refl)
+message-does portId (Frs id reason) p = (refl, refl)
+
+pub port-does : (portId : ℕ) (r : Record) (p : Front) → PortDoes p (portEffect portId r p)
+unfolding portEffect messageEffect clearedDev controlEffect
+port-does portId (MessageRecord m) p = either-way (PortDoes p) (p .dev .link) _ _ (λ e. message-does portId m p) (λ e. tt)
+port-does portId ReadQueue p = (refl, refl)
+port-does portId RemoveOldest p = (refl, refl)
+port-does portId (ClearBits mask) p = (refl, refl)
+port-does portId (Control b) p = either-way (PortDoes p) (ltb 15 b || eqb (b / 4 % 4) 3) _ _ (λ e. tt) (λ e. (refl, refl))
+port-does portId ReadBits p = (refl, refl)
+port-does portId (Read q) p = tt
+port-does portId (Write q value) p = tt
+port-does portId (HardwareSet slot word mask) p = tt
+port-does portId (Advance by) p = (refl, refl)
+port-does portId LinkUp p = (refl, refl)
+port-does portId LinkDown p = (refl, refl)
+port-does portId ColdReset p = (refl, refl)
+port-does portId NoKind p = (refl, refl)
+
+-- ---- answers part by part, in a state at rest
+
+module _ (setup : Setup) (s : State) (rests : Resting (s .dev .clock) (s .dev .owed) (s .statuses)) where
+  -- where clock and "owed" are the state's
+  rests-so : (d : Dev) → d .clock ≡ s .dev .clock → d .owed ≡ s .dev .owed → Resting (d .clock) (d .owed) (s .statuses)
+  rests-so d c o = rw (c, o) rests
+
+  port-answers : (e : Effect Front) → PortDoes (frontOf s) e → answered setup s (atPort s e) ≡ portPut s (portAnswered (frontOf s) e)
+  unfolding answered portAnswered
+  port-answers (refused c v) h = refl
+  port-answers (does y tally v) h =
+      let t : State = record { dev = y .dev; statuses = s .statuses; live = s .live; cells = y .cells } in
+      let r = rests-so (y .dev) (h .0) (h .1) in
+      ap (λ (x : Scene). record { after = withLive x (s .live); reply = reply completion.Done (x .root .tally) v }) (settle-rest setup (sceneOf t tally) (r .due) (r .drs))
+
+  slot-answers : (i : ℕ) → i < length (s .statuses) → (e : Effect Seat) → SlotDoes (seatOf s i) e
+      → answered setup s (atSlot s i e) ≡ slotPut s i (slotAnswered (setup .bus) (entryOf setup i) i (seatOf s i) e)
+  unfolding answered slotAnswered
+  slot-answers i l (refused c v) h =
+      ap (λ (m : List Status). record { after = record { dev = s .dev; statuses = m; live = s .live; cells = s .cells }; reply = reply c noTally v })
+      (sym (set-getD (s .statuses) i ready))
+  slot-answers i l (does y tally v) h =
+      let r = rests-so (y .dev) (ap (λ (d : Dev). d .clock) (h .1)) (ap (λ (d : Dev). d .owed) (h .1)) in
+      ap (λ (x : Scene). record { after = withLive x (y .live); reply = reply completion.Done (x .root .tally) v })
+      (settle-one setup (s .statuses) i (y .status) (record { dev = y .dev; cells = y .cells; tally = tally }) l (h .0) (r .due) (r .drs))
+
+-- ---- the three parts
+
+module _ (setup : Setup) (defaults : List ℕ) (s : State) (good : Sound setup s) (fits : Fitting setup defaults s) where
+  -- a record at slot i, which the card has
+  slot-part : (i : ℕ) → i < setup .slots → (r : Record) → SlotDoes (seatOf s i) (slotEffect (setup .slots) (kindOf setup i) (entryOf setup i) defaults r (seatOf s i))
+      → effect setup defaults s r ≡ atSlot s i (slotEffect (setup .slots) (kindOf setup i) (entryOf setup i) defaults r (seatOf s i))
+      → run setup defaults s r ≡ slotPut s i (slotRun (setup .slots) (kindOf setup i) (setup .bus) (entryOf setup i) defaults i r (seatOf s i))
+  unfolding run slotRun
+  slot-part i h r d e =
+      ap (answered setup s) e
+      ∙ slot-answers setup s (sound-rests setup defaults s good fits) i (let l = fits .slots in omega arith) _ d
+
+  -- A RECORD THAT TOUCHES ONE SLOT, which the card has, is run by that slot's status, the port and the lent words alone.
+  pub run-slot : (r : Record) (i : ℕ) → partOf (setup .slots) r ≡ OneSlot i
+      → run setup defaults s r ≡ slotPut s i (slotRun (setup .slots) (kindOf setup i) (setup .bus) (entryOf setup i) defaults i r (seatOf s i))
+  unfolding effect slotEffect
+  run-slot r i =
+      at-one-slot (λ r. run setup defaults s r ≡ slotPut s i (slotRun (setup .slots) (kindOf setup i) (setup .bus) (entryOf setup i) defaults i r (seatOf s i)))
+      (setup .slots) i
+      (λ q l e. rw (sym e) (slot-part (q .slot) l (Read q) (read-does (setup .slots) (kindOf setup (q .slot)) (seatOf s (q .slot)) q) refl))
+      (λ q value l e.
+      rw (sym e)
+      (slot-part (q .slot) l (Write q value)
+      (write-does (setup .slots) (kindOf setup (q .slot)) (seatOf s (q .slot)) (entryOf setup (q .slot)) defaults q value) refl))
+      (λ slot word mask l e.
+      rw (sym e) (slot-part slot l (HardwareSet slot word mask) (set-does (setup .slots) (kindOf setup slot) (seatOf s slot) slot word mask) refl))
+      r
+
+  port-part : (r : Record) → effect setup defaults s r ≡ atPort s (portEffect (setup .«port_id») r (frontOf s))
+      → run setup defaults s r ≡ portPut s (portRun (setup .«port_id») r (frontOf s))
+  unfolding run portRun
+  port-part r e = ap (answered setup s) e ∙ port-answers setup s (sound-rests setup defaults s good fits) _ (port-does (setup .«port_id») r (frontOf s))
+
+  -- A RECORD THAT TOUCHES NO SLOT is run by the port alone.
+  pub run-port : (r : Record) → partOf (setup .slots) r ≡ PortAlone → run setup defaults s r ≡ portPut s (portRun (setup .«port_id») r (frontOf s))
+  unfolding effect portEffect
+  run-port (MessageRecord m) e = port-part (MessageRecord m) refl
+  run-port ReadQueue e = port-part ReadQueue refl
+  run-port RemoveOldest e = port-part RemoveOldest refl
+  run-port (ClearBits mask) e = port-part (ClearBits mask) refl
+  run-port (Control b) e = port-part (Control b) refl
+  run-port ReadBits e = port-part ReadBits refl
+  run-port NoKind e = port-part NoKind refl
+  run-port (Read q) e =
+      port-part (Read q) (ap (atSlot s (q .slot)) (no-slot-read (setup .slots) (kindOf setup (q .slot)) (seatOf s (q .slot)) q (at-port (setup .slots) (q .slot) e)))
+  run-port (Write q value) e =
+      port-part (Write q value)
+      (ap (atSlot s (q .slot)) (no-slot-write (setup .slots) (kindOf setup (q .slot)) (seatOf s (q .slot)) (entryOf setup (q .slot)) defaults q value (at-port (setup .slots) (q .slot) e)))
+  run-port (HardwareSet slot word mask) e =
+      port-part (HardwareSet slot word mask) (ap (atSlot s slot) (no-slot-set (setup .slots) (kindOf setup slot) (seatOf s slot) slot word mask (at-port (setup .slots) slot e)))
+  run-port (Advance by) e = card-not-port e
+  run-port LinkUp e = card-not-port e
+  run-port LinkDown e = card-not-port e
+  run-port ColdReset e = card-not-port e
+
+-- A RECORD THAT TOUCHES EVERY SLOT is run on the whole card, in any state.
+pub run-card : (setup : Setup) (defaults : List ℕ) (s : State) (r : Record) → partOf (setup .slots) r ≡ WholeCard → run setup defaults s r ≡ cardRun setup defaults r s
+unfolding run cardRun effect cardEffect
+run-card setup defaults s (Advance by) e = refl
+run-card setup defaults s LinkUp e = refl
+run-card setup defaults s LinkDown e = refl
+run-card setup defaults s ColdReset e = refl
+run-card setup defaults s (Read q) e = at-no-card (setup .slots) (q .slot) e
+run-card setup defaults s (Write q value) e = at-no-card (setup .slots) (q .slot) e
+run-card setup defaults s (HardwareSet slot word mask) e = at-no-card (setup .slots) slot e
+run-card setup defaults s (MessageRecord m) e = card-not-port (sym e)
+run-card setup defaults s ReadQueue e = card-not-port (sym e)
+run-card setup defaults s RemoveOldest e = card-not-port (sym e)
+run-card setup defaults s (ClearBits mask) e = card-not-port (sym e)
+run-card setup defaults s (Control b) e = card-not-port (sym e)
+run-card setup defaults s ReadBits e = card-not-port (sym e)
+run-card setup defaults s NoKind e = card-not-port (sym e)

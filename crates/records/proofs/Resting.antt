@@ -1,0 +1,79 @@
+-- A sound state is at rest: nothing is due, and no DRS is to be told.
+-- Assumes nothing.
+use Prim.Native.Nat.{ℕ, _+_, _<_}
+use native.Mathlib.Omega.{arith}
+use mathlib.Core.Path.{_≡_, refl, ap}
+use mathlib.Core.Bool.{Bool, true, false, not, _&&_, _||_, false≢true}
+use mathlib.Core.List.{List, [], _∷_, List·Memᴰ, List·Memᴰ·head}
+use lib.Dec.{leb, ltb}
+use borrow.Author.Tests.{ltb-true, ltb-false}
+use Rattle.bits.proofs.Tests.{both-left}
+use Rattle.times.specs.declared.Nanos.{Nanos}
+use Rattle.times.specs.Codes.{greatestTime}
+use Rattle.frs_queue.specs.declared.Tally.{Tally}
+use Rattle.readiness.specs.declared.Cause.{Cause}
+use Rattle.readiness.specs.declared.Phase.{Phase}
+use Rattle.readiness.specs.declared.Phase.the-variants.{Pending}
+use Rattle.readiness.specs.declared.Status.{Status}
+use Rattle.readiness.specs.declared.Setup.{Setup}
+use Rattle.readiness.specs.Status.{allReady}
+use Rattle.readiness.specs.Events.{Event, due}
+use Rattle.readiness.specs.Settle.{settles}
+use Rattle.readiness.proofs.Laws.{due-order, settle-rest}
+use Rattle.records.specs.State.{State, statusAt, sceneOf}
+use Rattle.records.specs.Sound.{soundPhase, soundCause, Sound, Fitting}
+
+-- nothing is due at the clock, and no DRS is owed with every slot Ready
+pub record Resting (clock : Nanos) (owed : Bool) (l : List Status) : Type 0 where
+  pub due : due clock l ≡ []
+  pub drs : (owed && allReady l) ≡ false
+
+-- a slot that is sound isn't due
+pub pends-later : (clock : Nanos) (p : Phase) (c : Cause) (t : Nanos) → soundPhase clock p ≡ true → p ≡ Pending c t → clock .0 < t .0
+pends-later clock p c t e q =
+    let f : soundPhase clock (Pending c t) ≡ true = rw q at e in
+    let later = ltb (clock .0) (t .0) in
+    let most = leb (t .0) (clock .0 + greatestTime) in
+    ltb-true (clock .0) (t .0) (both-left later most (both-left (later && most) (soundCause c t) f))
+
+no-member : (es : List Event) → ((e : Event) → List·Memᴰ e es → ⊥) → es ≡ []
+no-member [] f = refl
+no-member (e ∷ es) f = absurd (f e (List·Memᴰ·head refl))
+
+-- where every slot, also past the last, is sound, nothing is due
+pub none-due : (clock : Nanos) (l : List Status) → ((i : ℕ) → soundPhase clock (statusAt l i .phase) ≡ true) → due clock l ≡ []
+none-due clock l h =
+    no-member (due clock l)
+    (λ e m.
+    let d = due-order clock l .exactly e .0 m in
+    let later = pends-later clock (statusAt l (e .slot) .phase) (e .cause) (e .time) (h (e .slot)) (d .0) in
+    omega (arith, d .1))
+
+not-owed : (owed link all : Bool) → (not owed || (link && not all)) ≡ true → (owed && all) ≡ false
+not-owed false link all e = refl
+not-owed true link false e = refl
+not-owed true false true e = absurd (false≢true e)
+not-owed true true true e = absurd (false≢true e)
+
+-- every slot, also past the last, is sound
+pub all-phases : (setup : Setup) (defaults : List ℕ) (s : State) → Sound setup s → Fitting setup defaults s
+    → (i : ℕ) → soundPhase (s .dev .clock) (statusAt (s .statuses) i .phase) ≡ true
+all-phases setup defaults s h f i = by (ltb i (setup .slots)) refl
+  where
+    by : (b : Bool) → ltb i (setup .slots) ≡ b → soundPhase (s .dev .clock) (statusAt (s .statuses) i .phase) ≡ true
+    by true e = h .phases i (ltb-true i (setup .slots) e)
+    by false e = ap (λ (t : Status). soundPhase (s .dev .clock) (t .phase)) (f .past i (ltb-false i (setup .slots) e))
+
+-- A sound state is at rest.
+pub sound-rests : (setup : Setup) (defaults : List ℕ) (s : State) → Sound setup s → Fitting setup defaults s → Resting (s .dev .clock) (s .dev .owed) (s .statuses)
+sound-rests setup defaults s h f =
+    record {
+      due = none-due (s .dev .clock) (s .statuses) (all-phases setup defaults s h f);
+      drs = not-owed (s .dev .owed) (s .dev .link) (allReady (s .statuses)) (h .owed);
+    }
+
+-- So there settling changes nothing and brings nothing.
+pub sound-settled : (setup : Setup) (defaults : List ℕ) (s : State) (tally : Tally) → Sound setup s → Fitting setup defaults s → settles setup (sceneOf s tally) ≡ sceneOf s tally
+sound-settled setup defaults s tally h f =
+    let r = sound-rests setup defaults s h f in
+    settle-rest setup (sceneOf s tally) (r .due) (r .drs)

@@ -1,0 +1,54 @@
+-- Each slot's status where slots are started anew, become Ready, or are replaced.
+-- Assumes nothing.
+use Prim.Native.Nat.{ℕ, zero, suc, _+_, _≤_, _<_}
+use native.Mathlib.Nat.{add-zero}
+use native.Mathlib.Omega.{arith}
+use mathlib.Core.Path.{_≡_, refl, ap, sym, _∙_}
+use mathlib.Core.Bool.{Bool, cond}
+use mathlib.Core.List.{List, [], _∷_}
+use lib.ListN.{length, set}
+use borrow.Author.Tests.{lt-ltb, le-ltb}
+use Rattle.times.specs.declared.Nanos.{Nanos}
+use Rattle.readiness.specs.declared.Status.{Status}
+use Rattle.readiness.specs.Status.{eachFrom}
+use Rattle.readiness.proofs.Order.{phaseBy, readyBy}
+use Rattle.records.specs.State.{statusAt}
+
+-- what holds of the new status and held at j before a slot is replaced holds at j after it
+pub set-keeps : (P : Status → Type 0) (l : List Status) (i j : ℕ) (a : Status) → P a → P (statusAt l j) → P (statusAt (set l i a) j)
+set-keeps P [] i j a p q = q
+set-keeps P (x ∷ l) zero zero a p q = p
+set-keeps P (x ∷ l) zero (suc j) a p q = q
+set-keeps P (x ∷ l) (suc i) zero a p q = q
+set-keeps P (x ∷ l) (suc i) (suc j) a p q = set-keeps P l i j a p q
+
+-- the slots once the clock has come to a moment
+pub at-readyBy : (clock : Nanos) (l : List Status) (i : ℕ) → statusAt (readyBy clock l) i ≡ record { phase = phaseBy clock (statusAt l i .phase) }
+unfolding readyBy
+at-readyBy clock [] i = refl
+at-readyBy clock (s ∷ l) zero = refl
+at-readyBy clock (s ∷ l) (suc i) = at-readyBy clock l i
+
+-- each slot of the card anew
+module _ (slots : ℕ) (f : ℕ → Status) where
+  pub length-each : (k : ℕ) (l : List Status) → length (eachFrom k slots f l) ≡ length l
+  unfolding eachFrom
+  length-each k [] = refl
+  length-each k (s ∷ l) = ap suc (length-each (suc k) l)
+
+  pub each-at : (k : ℕ) (l : List Status) (i : ℕ) → i < length l → k + i < slots → statusAt (eachFrom k slots f l) i ≡ f (k + i)
+  unfolding eachFrom
+  each-at k [] i h m = absurd (omega arith)
+  each-at k (s ∷ l) zero h m =
+      let n : k < slots = omega arith in
+      ap (λ (b : Bool). cond b (f k) s) (lt-ltb k slots n) ∙ ap f (sym (add-zero k))
+  each-at k (s ∷ l) (suc i) h m =
+      let n : suc k + i ≡ k + suc i = omega arith in
+      each-at (suc k) l i (omega arith) (omega arith) ∙ ap f n
+
+  -- past the card's slots the statuses stay
+  pub each-past : (k : ℕ) (l : List Status) (i : ℕ) → slots ≤ k + i → statusAt (eachFrom k slots f l) i ≡ statusAt l i
+  unfolding eachFrom
+  each-past k [] i m = refl
+  each-past k (s ∷ l) zero m = let n : slots ≤ k = omega arith in ap (λ (b : Bool). cond b (f k) s) (le-ltb k slots n)
+  each-past k (s ∷ l) (suc i) m = each-past (suc k) l i (omega arith)

@@ -1,0 +1,47 @@
+-- Records that touch every slot: advance clock, link up, link down, cold reset (01, "Trace records", "Readiness").
+-- Assumes nothing.
+use Prim.Native.Nat.{ℕ, _+_}
+use mathlib.Core.Bool.{Bool, true, false, cond}
+use mathlib.Core.List.{List}
+use lib.Dec.{leb}
+use Rattle.times.specs.declared.Nanos.{Nanos}
+use Rattle.times.specs.Moments.{sumOf}
+use Rattle.registers.specs.Functions.{linkResetAll, coldReset}
+use Rattle.frs_queue.specs.Queue.{noTally}
+use Rattle.readiness.specs.declared.Setup.{Setup}
+use Rattle.readiness.specs.declared.Dev.{Dev}
+use Rattle.readiness.specs.Status.{startedByLinkUp, afterLinkUp, stoppedByReset, afterLinkDown, afterColdReset}
+use Rattle.records.specs.declared.Completion.the-variants as completion
+use Rattle.records.specs.State.{State, state, cardKind}
+use Rattle.records.specs.Answer.{Effect, refused, does}
+
+-- the clock goes no further than 10^15
+abbrev pub clockEnd : ℕ
+clockEnd = 1000000000000000
+
+abbrev pub withClock : Dev → Nanos → Dev
+withClock d t = record { clock = t; link = d .link; owed = d .owed; «drs_received» = d .«drs_received»; control = d .control; queue = d .queue }
+
+-- advance clock; 22 if the clock would pass 10^15
+unfoldable pub advanceEffect : Nanos → State → Effect State
+advanceEffect by s =
+    let t = sumOf (s .dev .clock) by in
+    cond (leb (t .0) clockEnd) (does (state (withClock (s .dev) t) (s .statuses) (s .live) (s .cells)) noTally 0) (refused completion.ClockEnd 0)
+
+-- link up: every slot Pending until c + DL Up Time, a DRS is owed; 23 when up
+unfoldable pub linkUpEffect : Setup → State → Effect State
+linkUpEffect setup s =
+    cond (s .dev .link) (refused completion.WrongState 0)
+    (does (state (afterLinkUp (s .dev)) (startedByLinkUp setup (s .dev) (s .statuses)) (s .live) (s .cells)) noTally 0)
+
+-- link down: registers take their link-down reset; 23 when down
+unfoldable pub linkDownEffect : Setup → (defaults : List ℕ) → State → Effect State
+linkDownEffect setup defaults s =
+    cond (s .dev .link)
+    (does (state (afterLinkDown (s .dev)) (stoppedByReset setup (s .statuses)) (linkResetAll (cardKind setup) (s .live) defaults) (s .cells)) noTally 0)
+    (refused completion.WrongState 0)
+
+-- cold reset: live registers equal the defaults
+unfoldable pub coldResetEffect : Setup → (defaults : List ℕ) → State → Effect State
+coldResetEffect setup defaults s =
+    does (state (afterColdReset (s .dev)) (stoppedByReset setup (s .statuses)) (coldReset (s .live) defaults) (s .cells)) noTally 0

@@ -1,0 +1,12 @@
+pub mod State
+pub mod Decode
+pub mod Answer
+pub mod Route
+pub mod Requests
+pub mod PortRecords
+pub mod CardRecords
+pub mod Run
+pub mod Parts
+pub mod Steps
+pub mod Arrivals
+pub mod Sound

@@ -1,0 +1,135 @@
+-- A record by the part of the state that it touches: one slot, the root port alone, or the whole card.
+-- Assumes nothing.
+use Prim.Native.Nat.{ℕ}
+use mathlib.Core.Bool.{Bool, true, false, cond}
+use mathlib.Core.List.{List}
+use lib.Dec.{ltb}
+use lib.ListN.{set}
+use Rattle.registers.specs.declared.Kind.{Kind}
+use Rattle.frs_queue.specs.Queue.{noTally}
+use Rattle.readiness.specs.declared.Slot.{Slot}
+use Rattle.readiness.specs.declared.Setup.{Setup}
+use Rattle.readiness.specs.Settle.{SlotScene, slotSettles}
+use Rattle.records.specs.declared.Record.{Record}
+use Rattle.records.specs.declared.Record.the-variants.{Advance, Read, Write, Message, LinkUp, LinkDown, ColdReset, ReadQueue, RemoveOldest, ClearBits, Control, HardwareSet, ReadBits, NoKind}
+use Rattle.records.specs.declared.Completion.the-variants as completion
+use Rattle.records.specs.declared.Part.{Part}
+use Rattle.records.specs.declared.Part.the-variants.{OneSlot, PortAlone, WholeCard}
+use Rattle.records.specs.declared.SlotDone.{SlotDone}
+use Rattle.records.specs.declared.PortDone.{PortDone}
+use Rattle.records.specs.declared.CardDone.{CardDone}
+use Rattle.records.specs.State.{State, state, Seat, seat}
+use Rattle.records.specs.Answer.{Effect, refused, does, Ran, reply, answered}
+use Rattle.records.specs.Requests.{readEffect, writeEffect, hardwareEffect}
+use Rattle.records.specs.PortRecords.{Front, front, messageEffect, readQueueEffect, removeEffect, clearEffect, controlEffect, readBitsEffect}
+use Rattle.records.specs.CardRecords.{advanceEffect, linkUpEffect, linkDownEffect, coldResetEffect}
+
+-- a request to a slot that there is not touches nothing
+abbrev pub partAt : (slots slot : ℕ) → Part
+partAt slots slot = cond (ltb slot slots) (OneSlot slot) PortAlone
+
+-- which part a record touches
+abbrev pub partOf : (slots : ℕ) → Record → Part
+partOf slots (Advance by) = WholeCard
+partOf slots (Read q) = partAt slots (q .slot)
+partOf slots (Write q value) = partAt slots (q .slot)
+partOf slots (Message m) = PortAlone
+partOf slots LinkUp = WholeCard
+partOf slots LinkDown = WholeCard
+partOf slots ColdReset = WholeCard
+partOf slots ReadQueue = PortAlone
+partOf slots RemoveOldest = PortAlone
+partOf slots (ClearBits mask) = PortAlone
+partOf slots (Control b) = PortAlone
+partOf slots (HardwareSet slot word mask) = partAt slots slot
+partOf slots ReadBits = PortAlone
+partOf slots NoKind = PortAlone
+
+-- ---- one slot
+-- what a record does to a slot's part; other records do nothing there
+unfoldable pub slotEffect : (slots : ℕ) → Kind → Slot → (defaults : List ℕ) → Record → Seat → Effect Seat
+slotEffect slots kind entry defaults (Read q) z = readEffect slots kind q z
+slotEffect slots kind entry defaults (Write q value) z = writeEffect slots kind entry defaults q value z
+slotEffect slots kind entry defaults (HardwareSet slot word mask) z = hardwareEffect slots kind slot word mask z
+slotEffect slots kind entry defaults (Advance by) z = does z noTally 0
+slotEffect slots kind entry defaults (Message m) z = does z noTally 0
+slotEffect slots kind entry defaults LinkUp z = does z noTally 0
+slotEffect slots kind entry defaults LinkDown z = does z noTally 0
+slotEffect slots kind entry defaults ColdReset z = does z noTally 0
+slotEffect slots kind entry defaults ReadQueue z = does z noTally 0
+slotEffect slots kind entry defaults RemoveOldest z = does z noTally 0
+slotEffect slots kind entry defaults (ClearBits mask) z = does z noTally 0
+slotEffect slots kind entry defaults (Control b) z = does z noTally 0
+slotEffect slots kind entry defaults ReadBits z = does z noTally 0
+slotEffect slots kind entry defaults NoKind z = does z noTally 0
+
+-- the slot becomes Ready before the answer, if its ready time is at or before the clock
+unfoldable pub slotAnswered : (bus : ℕ) → Slot → (slot : ℕ) → Seat → Effect Seat → Ran Seat
+slotAnswered bus entry slot z (refused completion dataWord) = record { after = z; reply = reply completion noTally dataWord }
+slotAnswered bus entry slot z (does y tally dataWord) =
+    let x = slotSettles bus entry slot (record { status = y .status; root = record { dev = y .dev; cells = y .cells; tally = tally } }) in
+    record { after = seat (x .root .dev) (x .status) (y .live) (x .root .cells); reply = reply completion.Done (x .root .tally) dataWord }
+
+unfoldable pub slotRun : (slots : ℕ) → Kind → (bus : ℕ) → Slot → (defaults : List ℕ) → (slot : ℕ) → Record → Seat → Ran Seat
+slotRun slots kind bus entry defaults slot r z = slotAnswered bus entry slot z (slotEffect slots kind entry defaults r z)
+
+abbrev pub slotRan : SlotDone → (live cells : List ℕ) → Ran Seat
+slotRan x live cells = record { after = seat (x .dev) (x .status) live cells; reply = x .reply }
+
+-- ---- the root port alone
+-- what a record does to the root port; a request to a slot that there is not is refused with 20
+unfoldable pub portEffect : (portId : ℕ) → Record → Front → Effect Front
+portEffect portId (Message m) p = messageEffect portId m p
+portEffect portId ReadQueue p = readQueueEffect p
+portEffect portId RemoveOldest p = removeEffect p
+portEffect portId (ClearBits mask) p = clearEffect mask p
+portEffect portId (Control b) p = controlEffect b p
+portEffect portId ReadBits p = readBitsEffect p
+portEffect portId (Read q) p = refused completion.NoSlot 0
+portEffect portId (Write q value) p = refused completion.NoSlot 0
+portEffect portId (HardwareSet slot word mask) p = refused completion.NoSlot 0
+portEffect portId (Advance by) p = does p noTally 0
+portEffect portId LinkUp p = does p noTally 0
+portEffect portId LinkDown p = does p noTally 0
+portEffect portId ColdReset p = does p noTally 0
+portEffect portId NoKind p = does p noTally 0
+
+unfoldable pub portAnswered : Front → Effect Front → Ran Front
+portAnswered p (refused completion dataWord) = record { after = p; reply = reply completion noTally dataWord }
+portAnswered p (does y tally dataWord) = record { after = y; reply = reply completion.Done tally dataWord }
+
+unfoldable pub portRun : (portId : ℕ) → Record → Front → Ran Front
+portRun portId r p = portAnswered p (portEffect portId r p)
+
+abbrev pub portRan : PortDone → (cells : List ℕ) → Ran Front
+portRan x cells = record { after = front (x .dev) cells; reply = x .reply }
+
+-- ---- the whole card
+unfoldable pub cardEffect : Setup → (defaults : List ℕ) → Record → State → Effect State
+cardEffect setup defaults (Advance by) s = advanceEffect by s
+cardEffect setup defaults LinkUp s = linkUpEffect setup s
+cardEffect setup defaults LinkDown s = linkDownEffect setup defaults s
+cardEffect setup defaults ColdReset s = coldResetEffect setup defaults s
+cardEffect setup defaults (Read q) s = refused completion.Done 0
+cardEffect setup defaults (Write q value) s = refused completion.Done 0
+cardEffect setup defaults (HardwareSet slot word mask) s = refused completion.Done 0
+cardEffect setup defaults (Message m) s = refused completion.Done 0
+cardEffect setup defaults ReadQueue s = refused completion.Done 0
+cardEffect setup defaults RemoveOldest s = refused completion.Done 0
+cardEffect setup defaults (ClearBits mask) s = refused completion.Done 0
+cardEffect setup defaults (Control b) s = refused completion.Done 0
+cardEffect setup defaults ReadBits s = refused completion.Done 0
+cardEffect setup defaults NoKind s = refused completion.Done 0
+
+unfoldable pub cardRun : Setup → (defaults : List ℕ) → Record → State → Ran State
+cardRun setup defaults r s = answered setup s (cardEffect setup defaults r s)
+
+abbrev pub cardRan : CardDone → (live cells : List ℕ) → Ran State
+cardRan x live cells = record { after = state (x .dev) (x .statuses) live cells; reply = x .reply }
+
+-- ---- a part put back into the state
+abbrev pub slotPut : State → (slot : ℕ) → Ran Seat → Ran State
+slotPut s slot x = record { after = state (x .after .dev) (set (s .statuses) slot (x .after .status)) (x .after .live) (x .after .cells); reply = x .reply }
+
+abbrev pub portPut : State → Ran Front → Ran State
+portPut s x = record { after = state (x .after .dev) (s .statuses) (s .live) (x .after .cells); reply = x .reply }

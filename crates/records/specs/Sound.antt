@@ -1,0 +1,92 @@
+-- Soundness of port and statuses (01, "Numbers given for no", refusal 5), but for the carried bytes.
+-- Assumes nothing.
+use Prim.Native.Nat.{ℕ, suc, _+_, _*_, _≤_, _<_}
+use mathlib.Core.Path.{_≡_}
+use mathlib.Core.Bool.{Bool, true, false, not, _&&_, _||_, cond}
+use mathlib.Core.List.{List, [], _∷_}
+use lib.Dec.{leb, ltb, eqb}
+use lib.ListN.{length, getD}
+use Rattle.times.specs.declared.Nanos.{Nanos}
+use Rattle.times.specs.Codes.{greatestTime}
+use Rattle.frs_queue.specs.Queue.{messagesOf, placeOf}
+use Rattle.readiness.specs.declared.Cause.{Cause}
+use Rattle.readiness.specs.declared.Cause.the-variants.{LinkUp, Flr, D3hot}
+use Rattle.readiness.specs.declared.Phase.{Phase}
+use Rattle.readiness.specs.declared.Phase.the-variants.{Down, Pending, Ready}
+use Rattle.readiness.specs.declared.Status.{Status}
+use Rattle.readiness.specs.declared.Setup.{Setup}
+use Rattle.readiness.specs.declared.Dev.{Dev}
+use Rattle.readiness.specs.Status.{ready, allReady}
+use Rattle.records.specs.State.{State, statusAt}
+use Rattle.records.specs.CardRecords.{clockEnd}
+
+-- an FLR end isn't after its ready time
+abbrev pub soundCause : Cause → Nanos → Bool
+soundCause LinkUp t = true
+soundCause D3hot t = true
+soundCause (Flr end) t = leb (end .0) (t .0)
+
+-- a Pending ready time is after the clock, and at most 1,006,632,960 after it
+abbrev pub soundPhase : Nanos → Phase → Bool
+soundPhase clock Down = true
+soundPhase clock Ready = true
+soundPhase clock (Pending cause t) = ltb (clock .0) (t .0) && leb (t .0) (clock .0 + greatestTime) && soundCause cause t
+
+-- no Down slot with the link up, nor any other with it down
+abbrev pub matchesLink : Bool → Phase → Bool
+matchesLink link Down = not link
+matchesLink link (Pending cause t) = link
+matchesLink link Ready = link
+
+abbrev pub soundStatus : Dev → Status → Bool
+soundStatus d s = soundPhase (d .clock) (s .phase) && matchesLink (d .link) (s .phase)
+
+-- each of the card's slots
+unfoldable pub soundStatuses : (slots : ℕ) → Dev → List Status → Bool
+soundStatuses ℕ.zero d l = true
+soundStatuses (suc n) d l = soundStatuses n d l && soundStatus d (statusAt l n)
+
+-- a live cell is below 2^20
+abbrev pub soundCell : ℕ → Bool
+soundCell v = ltb v 1048576
+
+unfoldable pub soundCells : (depth : ℕ) → (cells : List ℕ) → (start : ℕ) → Bool
+soundCells ℕ.zero cells start = true
+soundCells (suc n) cells start = soundCells n cells start && soundCell (getD cells (placeOf (length cells) start n) 0)
+
+-- a DRS isn't owed with the link down, nor with every slot Ready
+abbrev pub soundOwed : Dev → List Status → Bool
+soundOwed d l = not (d .owed) || (d .link && not (allReady l))
+
+-- the test for refusal 5
+unfoldable pub sound : Setup → State → Bool
+sound setup s =
+    let d = s .dev in
+    let q = d .queue in
+    leb (d .clock .0) clockEnd
+    && ltb (q .start) (length (s .cells))
+    && leb (q .depth) (length (s .cells))
+    && soundCells (q .depth) (s .cells) (q .start)
+    && leb (d .control .signalling) 2
+    && soundStatuses (setup .slots) d (s .statuses)
+    && soundOwed d (s .statuses)
+
+-- the same as named facts
+pub record Sound (setup : Setup) (s : State) : Type 0 where
+  pub clock : s .dev .clock .0 ≤ clockEnd
+  pub start : s .dev .queue .start < length (s .cells)
+  pub depth : s .dev .queue .depth ≤ length (s .cells)
+  pub cells : (k : ℕ) → k < s .dev .queue .depth → getD (s .cells) (placeOf (length (s .cells)) (s .dev .queue .start) k) 0 < 1048576
+  pub signalling : s .dev .control .signalling ≤ 2
+  pub phases : (i : ℕ) → i < setup .slots → soundPhase (s .dev .clock) (statusAt (s .statuses) i .phase) ≡ true
+  pub links : (i : ℕ) → i < setup .slots → matchesLink (s .dev .link) (statusAt (s .statuses) i .phase) ≡ true
+  pub owed : soundOwed (s .dev) (s .statuses) ≡ true
+
+-- the card's slots, their registers, and nothing but Ready past the last slot
+pub record Fitting (setup : Setup) (defaults : List ℕ) (s : State) : Type 0 where
+  pub some : 0 < setup .slots
+  pub most : setup .slots ≤ 32
+  pub words : length (s .live) ≡ 64 * setup .slots
+  pub defaultWords : length defaults ≡ 64 * setup .slots
+  pub slots : setup .slots ≤ length (s .statuses)
+  pub past : (i : ℕ) → setup .slots ≤ i → statusAt (s .statuses) i ≡ ready

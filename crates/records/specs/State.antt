@@ -1,0 +1,67 @@
+-- The device's state (01, "One trace"), and the parts of it that a record sees.
+-- Assumes nothing.
+use Prim.Native.Nat.{ℕ, _+_, _*_}
+use mathlib.Core.List.{List}
+use lib.ListN.{getD, set}
+use Rattle.frs_queue.specs.declared.Tally.{Tally}
+use Rattle.registers.specs.declared.Kind.{Kind}
+use Rattle.registers.specs.declared.Kind.the-variants.{Endpoint}
+use Rattle.readiness.specs.declared.Status.{Status}
+use Rattle.readiness.specs.declared.Setup.{Setup}
+use Rattle.readiness.specs.declared.Dev.{Dev}
+use Rattle.readiness.specs.Status.{ready}
+use Rattle.readiness.specs.Root.{Root}
+use Rattle.readiness.specs.Settle.{Scene}
+
+-- the clock, the link and the port's part; the slot statuses; the live registers, 64 words to a slot; the queue cells
+pub record State : Type 0 where
+  pub dev : Dev
+  pub statuses : List Status
+  pub live : List ℕ
+  pub cells : List ℕ
+
+abbrev pub state : Dev → List Status → (live cells : List ℕ) → State
+state dev statuses live cells = record { dev = dev; statuses = statuses; live = live; cells = cells }
+
+-- a slot's status; what lies past the last slot counts as Ready
+abbrev pub statusAt : List Status → ℕ → Status
+statusAt l slot = getD l slot ready
+
+-- where a slot's word lies in the lent registers
+abbrev pub wordPlace : (slot word : ℕ) → ℕ
+wordPlace slot word = slot * 64 + word
+
+-- what a slot holds, which selects the attributes of its words
+abbrev pub kindOf : Setup → (slot : ℕ) → Kind
+kindOf setup slot = Endpoint
+
+-- the kind of every slot of the card
+abbrev pub cardKind : Setup → Kind
+cardKind setup = Endpoint
+
+-- the root port of a state, with what the record has brought so far
+abbrev pub rootOf : State → Tally → Root
+rootOf s tally = record { dev = s .dev; cells = s .cells; tally = tally }
+
+abbrev pub sceneOf : State → Tally → Scene
+sceneOf s tally = record { statuses = s .statuses; root = rootOf s tally }
+
+-- a scene with the live registers beside it
+abbrev pub withLive : Scene → (live : List ℕ) → State
+withLive x live = state (x .root .dev) (x .statuses) live (x .root .cells)
+
+-- one slot's part of the state, and the state with that part put back
+pub record Seat : Type 0 where
+  pub dev : Dev
+  pub status : Status
+  pub live : List ℕ
+  pub cells : List ℕ
+
+abbrev pub seat : Dev → Status → (live cells : List ℕ) → Seat
+seat dev status live cells = record { dev = dev; status = status; live = live; cells = cells }
+
+abbrev pub seatOf : State → (slot : ℕ) → Seat
+seatOf s slot = seat (s .dev) (statusAt (s .statuses) slot) (s .live) (s .cells)
+
+abbrev pub putBack : State → (slot : ℕ) → Seat → State
+putBack s slot z = state (z .dev) (set (s .statuses) slot (z .status)) (z .live) (z .cells)

@@ -1,0 +1,132 @@
+// The thirteen records: their types, and in specs/ what each does to the device and how it is answered.
+
+use frs_queue::Tally;
+use messages::Message;
+use readiness::Cause;
+use readiness::Dev;
+use readiness::Setup;
+use readiness::Slot;
+use readiness::Status;
+use times::Nanos;
+
+// Whom a configuration request addresses: the slot, the word and the byte enables.
+pub struct Request {
+    pub slot: usize,
+    pub word: usize,
+    pub enables: u8,
+}
+
+// A record, taken from its bytes.
+pub enum Record {
+    // 01: advance clock, by so many nanoseconds.
+    Advance(Nanos),
+    // 02: configuration read.
+    Read(Request),
+    // 03: configuration write, and its data.
+    Write(Request, u32),
+    // 04: message.
+    Message(Message),
+    // 05, 06, 07.
+    LinkUp,
+    LinkDown,
+    ColdReset,
+    // 08, 09: read queue register, remove oldest.
+    ReadQueue,
+    RemoveOldest,
+    // 0A: clear status bits where 1.
+    ClearBits(u8),
+    // 0B: the control byte.
+    Control(u8),
+    // 0C: hardware sets bits: the slot, the word and the mask.
+    HardwareSet(usize, usize, u32),
+    // 0D: read the three status bits.
+    ReadBits,
+    // No such kind: feed runs none of these.
+    NoKind,
+}
+
+// How a record is answered.
+pub enum Completion {
+    // 0
+    Done,
+    // 16: CRS shown.
+    CrsShown,
+    // 17: CRS, to be re-issued.
+    CrsRetry,
+    // 18: Unsupported.
+    Unsupported,
+    // 19: no readiness message.
+    NoReadinessMessage,
+    // 20: no such slot.
+    NoSlot,
+    // 21: word above 63.
+    NoWord,
+    // 22: clock would pass 10^15.
+    ClockEnd,
+    // 23: not as the link or the slot stands.
+    WrongState,
+    // 24: enables above 15, a control byte above 15, or signalling 3.
+    BadValue,
+}
+
+// An answer: the completion, what the record brought, and the data.
+pub struct Reply {
+    pub completion: Completion,
+    pub tally: Tally,
+    pub data: u32,
+}
+
+// How a request to a slot that isn't Ready is answered while it is starting: shown by the vendor ID 0001h; or to be re-issued, since
+// visibility is off, or since it is no read of the whole vendor ID.
+pub enum Crs {
+    Shown,
+    VisibilityOff,
+    NotVendorId,
+}
+
+// Where a request goes, and why: the first that applies.
+pub enum Route {
+    NoSlot,
+    NoWord,
+    BadEnables,
+    LinkDown,
+    // With its end.
+    FlrInProgress(Nanos),
+    // With the cause, the ready time, and how it is shown.
+    Starting(Cause, Nanos, Crs),
+    Access,
+}
+
+// The part of the state that a record touches.
+pub enum Part {
+    OneSlot(usize),
+    PortAlone,
+    WholeCard,
+}
+
+// What a record does to one slot before its answer, beside the live registers: it is answered with a status other than 0, and its
+// data; or it is done, with the slot's new status, and its data.
+pub enum SlotStep {
+    Refused(Completion, u32),
+    Does(Status, u32),
+}
+
+// What a record leaves that touches one slot, beside the lent slices.
+pub struct SlotDone {
+    pub dev: Dev,
+    pub status: Status,
+    pub reply: Reply,
+}
+
+// What a record leaves that touches no slot.
+pub struct PortDone {
+    pub dev: Dev,
+    pub reply: Reply,
+}
+
+// What a record leaves that touches every slot.
+pub struct CardDone {
+    pub dev: Dev,
+    pub statuses: [Status; 32],
+    pub reply: Reply,
+}

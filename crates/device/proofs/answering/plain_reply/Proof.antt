@@ -1,0 +1,14 @@
+-- `device::answering::plain_reply` meets its contract.
+-- Assumes nothing.
+use borrow.Author.Needs.{needs}
+use Rattle.device.proofs.answering.plain_reply.Statement.{statement}
+use Rattle.device.proofs.answering.plain_reply.Tie as tie
+
+no-tally-requires : tie.Need-no-tally-requires
+no-tally-requires c κs = search needs
+
+returns : tie.Need-returns
+returns c = rw (c .no-tally .ensures)
+
+pub plain-reply-spec : {M : Type 1} → statement M
+plain-reply-spec = tie.close (tie.spec no-tally-requires returns)

@@ -1,0 +1,31 @@
+-- `device::card::settled` meets its contract.
+-- Assumes nothing.
+use borrow.Author.Needs.{needs}
+use mathlib.Core.Path.{ap}
+use mathlib.Core.List.{List}
+use Prim.Native.Nat.{ℕ}
+use Rattle.readiness.specs.Settle.{Scene}
+use Rattle.records.specs.declared.Completion.the-variants as completion
+use Rattle.records.specs.State.{State, withLive}
+use Rattle.records.specs.Answer.{Ran, reply, answered}
+use Rattle.device.proofs.card.settled.Statement.{statement}
+use Rattle.device.proofs.card.settled.Tie as tie
+
+abbrev told : (live : List ℕ) → Scene → Ran State
+told live x = record { after = withLive x live; reply = reply completion.Done (x .root .tally) 0 }
+
+root-port-requires : tie.Need-root-port-requires
+root-port-requires c κs = search needs
+
+settle-requires : tie.Need-settle-requires
+settle-requires c κs = search needs
+
+same-length : tie.Need-same-length
+same-length c = search needs
+
+returns : tie.Need-returns
+unfolding answered
+returns c = λ before live. ap (told live) (rw (c .before .before .before .before .before .before .before .before .root-port .ensures) at (c .before .before .before .before .before .before .settle .ensures))
+
+pub settled-spec : {M : Type 1} → statement M
+settled-spec = tie.close (tie.spec root-port-requires settle-requires same-length returns)

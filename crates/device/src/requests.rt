@@ -1,0 +1,277 @@
+// Records that touch one slot: configuration read, configuration write, hardware set.
+ghost use mathlib.Core.Path.{_≡_};
+ghost use mathlib.Core.Bool.{cond};
+ghost use mathlib.Core.List.{List};
+ghost use Prim.Native.Nat.{ℕ, _+_, _*_, _≤_, _<_};
+ghost use lib.ListN.{length};
+ghost use Rattle.bits.specs.Bits.{bit};
+ghost use Rattle.registers.specs.Functions.{linkResetSlot};
+ghost use Rattle.readiness.specs.declared.Dev.{Dev};
+ghost use Rattle.frs_queue.specs.Queue.{noTally};
+ghost use Rattle.records.specs.State.{Seat, seat, kindOf};
+ghost use Rattle.records.specs.Answer.{does};
+ghost use Rattle.records.specs.Requests.{startsD3hot, writeSeat, readEffect, writeEffect, hardwareEffect};
+ghost use Rattle.records.specs.Parts.{slotEffect, slotAnswered, slotRun, slotRan};
+ghost use Rattle.records.specs.Steps.{stepped, liveAfter};
+use crate::answering::plain_reply;
+use crate::port::root_port;
+use crate::routing::is_access;
+use crate::routing::refused_data;
+use crate::routing::route_completion;
+use crate::routing::route_of;
+use readiness::Dev;
+use readiness::Setup;
+use readiness::Slot;
+use readiness::Status;
+use records::Completion;
+use records::Record;
+use records::Reply;
+use records::Request;
+use records::SlotDone;
+use records::SlotStep;
+use registers::Kind;
+
+// What a slot holds.
+pub fn kind_of(setup: Setup, slot: usize) -> Kind
+    ensures { λ r. ⌜ r ≡ kindOf setup slot ⌝ }
+{
+    Kind::Endpoint
+}
+
+// Configuration read, by its route.
+fn read(slots: usize, kind: Kind, dev: Dev, status: Status, live: &[u32], q: Request) -> SlotStep
+    requires { ⌜ 64 * slots ≤ length (now live) ⌝ }
+    ensures { λ r. ⌜ ((cells : List ℕ) → stepped r dev (now (live .entry)) cells ≡ readEffect slots kind q (seat dev status (now (live .entry)) cells)) ⌝ }
+{
+    let route = route_of(slots, dev, status, true, q);
+    if is_access(route) {
+        let slot = q.slot;
+        let word = q.word;
+        let at = slot * 64 + word;
+        let data = registers::read_word(kind, word, live[at], q.enables);
+        return SlotStep::Does(status, data);
+    }
+    SlotStep::Refused(
+        route_completion(route),
+        refused_data(true, q.enables, route),
+    )
+}
+
+// A write that takes PowerState from 3 to 0.
+fn starts_d3hot(word: usize, old: u32, new: u32) -> bool
+    ensures { λ r. ⌜ r ≡ startsD3hot word old new ⌝ }
+{
+    (word == 0x11) & (registers::power_state(old) == 3) & (registers::power_state(new) == 0)
+}
+
+// As link down in that slot, if No_Soft_Reset is 0 in the new PMCSR; else no other bit changes.
+fn d3hot_reset(kind: Kind, slot: usize, new: u32, live: &mut [u32], defaults: &[u32])
+    ensures { λ _. ⌜ now (live .exit) ≡ cond (bit new 3) (now (live .entry)) (linkResetSlot kind slot (now (live .entry)) (now (defaults .entry))) ⌝ }
+{
+    if new & 8 != 0 {
+        return;
+    }
+    registers::link_reset_slot(kind, slot, live, defaults);
+}
+
+// Configuration write of a Ready slot: the write is finished first, then the FLR or the way from D3hot starts, if it is one.
+fn write_ready(
+    kind: Kind,
+    entry: Slot,
+    dev: Dev,
+    status: Status,
+    live: &mut [u32],
+    defaults: &[u32],
+    q: Request,
+    value: u32,
+) -> Status
+    requires { ⌜ (q .slot * 64 + 64 ≤ length (now live)) × (q .slot * 64 + 64 ≤ length (now defaults)) × (q .word < 64) ⌝ }
+    ensures { λ r. ⌜ ((cells : List ℕ) → seat dev r (now (live .exit)) cells ≡ writeSeat kind entry (now (defaults .entry)) q value (seat dev status (now (live .entry)) cells)) ⌝ }
+{
+    let slot = q.slot;
+    let word = q.word;
+    let at = slot * 64 + word;
+    let capabilities = slot * 64 + 0x1D;
+    let old = live[at];
+    let new = registers::write_word(kind, word, old, value, q.enables);
+    live[at] = new;
+    let clock = dev.clock;
+    if registers::starts_flr(kind, word, value, q.enables, defaults[capabilities]) {
+        registers::flr_reset_slot(kind, slot, live, defaults);
+        return readiness::flr_status(clock, entry);
+    }
+    if starts_d3hot(word, old, new) {
+        d3hot_reset(kind, slot, new, live, defaults);
+        return readiness::d3hot_status(clock, entry);
+    }
+    status
+}
+
+// Configuration write, by its route.
+fn write(
+    slots: usize,
+    kind: Kind,
+    entry: Slot,
+    dev: Dev,
+    status: Status,
+    live: &mut [u32],
+    defaults: &[u32],
+    q: Request,
+    value: u32,
+) -> SlotStep
+    requires { ⌜ (64 * slots ≤ length (now live)) × (64 * slots ≤ length (now defaults)) ⌝ }
+    ensures { λ r. ⌜ ((cells : List ℕ) → stepped r dev (now (live .exit)) cells ≡ writeEffect slots kind entry (now (defaults .entry)) q value (seat dev status (now (live .entry)) cells)) ⌝ }
+    ensures { λ r. ⌜ ((cells : List ℕ) → now (live .exit) ≡ liveAfter (now (live .entry)) (writeEffect slots kind entry (now (defaults .entry)) q value (seat dev status (now (live .entry)) cells))) ⌝ }
+{
+    let route = route_of(slots, dev, status, false, q);
+    if is_access(route) {
+        let after = write_ready(kind, entry, dev, status, live, defaults, q, value);
+        return SlotStep::Does(after, 0);
+    }
+    SlotStep::Refused(
+        route_completion(route),
+        refused_data(false, q.enables, route),
+    )
+}
+
+// Hardware sets those mask bits that lie in C. Order: 20, 21, 23.
+fn hardware_set(
+    slots: usize,
+    kind: Kind,
+    status: Status,
+    live: &mut [u32],
+    slot: usize,
+    word: usize,
+    mask: u32,
+) -> SlotStep
+    requires { ⌜ 64 * slots ≤ length (now live) ⌝ }
+    ensures { λ r. ⌜ ((dev : Dev) (cells : List ℕ) → stepped r dev (now (live .exit)) cells ≡ hardwareEffect slots kind slot word mask (seat dev status (now (live .entry)) cells)) ⌝ }
+    ensures { λ r. ⌜ ((dev : Dev) (cells : List ℕ) → now (live .exit) ≡ liveAfter (now (live .entry)) (hardwareEffect slots kind slot word mask (seat dev status (now (live .entry)) cells))) ⌝ }
+{
+    if slots <= slot {
+        return SlotStep::Refused(Completion::NoSlot, 0);
+    }
+    if 63 < word {
+        return SlotStep::Refused(Completion::NoWord, 0);
+    }
+    if readiness::is_ready(status) {
+        let at = slot * 64 + word;
+        live[at] = registers::hardware_set(kind, word, live[at], mask);
+        return SlotStep::Does(status, 0);
+    }
+    SlotStep::Refused(Completion::WrongState, 0)
+}
+
+// What a record does to a slot; other records do nothing there.
+fn slot_step(
+    slots: usize,
+    kind: Kind,
+    entry: Slot,
+    dev: Dev,
+    status: Status,
+    live: &mut [u32],
+    defaults: &[u32],
+    record: Record,
+) -> SlotStep
+    requires { ⌜ (64 * slots ≤ length (now live)) × (64 * slots ≤ length (now defaults)) ⌝ }
+    ensures { λ r. ⌜ ((cells : List ℕ) → stepped r dev (now (live .exit)) cells ≡ slotEffect slots kind entry (now (defaults .entry)) «record» (seat dev status (now (live .entry)) cells)) ⌝ }
+    ensures { λ r. ⌜ ((cells : List ℕ) → now (live .exit) ≡ liveAfter (now (live .entry)) (slotEffect slots kind entry (now (defaults .entry)) «record» (seat dev status (now (live .entry)) cells))) ⌝ }
+{
+    match record {
+        Record::Read(q) => read(slots, kind, dev, status, live, q),
+        Record::Write(q, value) => write(slots, kind, entry, dev, status, live, defaults, q, value),
+        Record::HardwareSet(slot, word, mask) => hardware_set(
+            slots,
+            kind,
+            status,
+            live,
+            slot,
+            word,
+            mask,
+        ),
+        Record::Advance(_) => SlotStep::Does(status, 0),
+        Record::Message(_) => SlotStep::Does(status, 0),
+        Record::LinkUp => SlotStep::Does(status, 0),
+        Record::LinkDown => SlotStep::Does(status, 0),
+        Record::ColdReset => SlotStep::Does(status, 0),
+        Record::ReadQueue => SlotStep::Does(status, 0),
+        Record::RemoveOldest => SlotStep::Does(status, 0),
+        Record::ClearBits(_) => SlotStep::Does(status, 0),
+        Record::Control(_) => SlotStep::Does(status, 0),
+        Record::ReadBits => SlotStep::Does(status, 0),
+        Record::NoKind => SlotStep::Does(status, 0),
+    }
+}
+
+// Before the answer to a record that is done, the slot becomes Ready if its ready time is at or before the clock.
+fn settled(
+    bus: u8,
+    entry: Slot,
+    slot: usize,
+    dev: Dev,
+    status: Status,
+    cells: &mut [u32],
+    data: u32,
+) -> SlotDone
+    requires { ⌜ slot < 32 ⌝ }
+    ensures { λ r. ⌜ ((before : Seat) (live : List ℕ) → slotRan r live (now (cells .exit)) ≡ slotAnswered bus entry slot before (does (seat dev status live (now (cells .entry))) noTally «data»)) ⌝ }
+{
+    let settled = readiness::settle_slot(bus, entry, slot, status, root_port(dev), cells);
+    let port = settled.port;
+    let after = settled.status;
+    let dev = port.dev;
+    let tally = port.tally;
+    SlotDone {
+        dev: dev,
+        status: after,
+        reply: Reply {
+            completion: Completion::Done,
+            tally: tally,
+            data: data,
+        },
+    }
+}
+
+// The answer to a record that touches one slot.
+fn answered(
+    bus: u8,
+    entry: Slot,
+    slot: usize,
+    dev: Dev,
+    status: Status,
+    cells: &mut [u32],
+    step: SlotStep,
+) -> SlotDone
+    requires { ⌜ slot < 32 ⌝ }
+    ensures { λ r. ⌜ ((live : List ℕ) → slotRan r live (now (cells .exit)) ≡ slotAnswered bus entry slot (seat dev status live (now (cells .entry))) (stepped step dev live (now (cells .entry)))) ⌝ }
+{
+    match step {
+        SlotStep::Refused(completion, data) => SlotDone {
+            dev: dev,
+            status: status,
+            reply: plain_reply(completion, data),
+        },
+        SlotStep::Does(after, data) => settled(bus, entry, slot, dev, after, cells, data),
+    }
+}
+
+// A record that touches one slot runs.
+pub fn run_slot(
+    slots: usize,
+    kind: Kind,
+    bus: u8,
+    entry: Slot,
+    slot: usize,
+    dev: Dev,
+    status: Status,
+    live: &mut [u32],
+    defaults: &[u32],
+    cells: &mut [u32],
+    record: Record,
+) -> SlotDone
+    requires { ⌜ (slot < 32) × (64 * slots ≤ length (now live)) × (64 * slots ≤ length (now defaults)) ⌝ }
+    ensures { λ r. ⌜ slotRan r (now (live .exit)) (now (cells .exit)) ≡ slotRun slots kind bus entry (now (defaults .entry)) slot «record» (seat dev status (now (live .entry)) (now (cells .entry))) ⌝ }
+{
+    let step = slot_step(slots, kind, entry, dev, status, live, defaults, record);
+    answered(bus, entry, slot, dev, status, cells, step)
+}

@@ -1,0 +1,154 @@
+// The test for refusal 5, but for the carried bytes.
+ghost use mathlib.Core.Path.{_≡_};
+ghost use mathlib.Core.Bool.{_&&_};
+ghost use mathlib.Core.List.{List};
+ghost use Prim.Native.Nat.{ℕ, _+_, _≤_, _<_};
+ghost use lib.Dec.{ltb, leb};
+ghost use lib.ListN.{length, getD};
+ghost use Rattle.times.specs.Codes.{greatestTime};
+ghost use Rattle.frs_queue.specs.Queue.{placeOf};
+ghost use Rattle.records.specs.State.{state};
+ghost use Rattle.records.specs.Sound.{soundCause, soundPhase, matchesLink, soundStatus, soundStatuses, soundCells, soundOwed, sound};
+use crate::card::CLOCK_END;
+use readiness::Cause;
+use readiness::Dev;
+use readiness::Phase;
+use readiness::Setup;
+use readiness::Status;
+use times::Nanos;
+
+// The time of the greatest code.
+const GREATEST_TIME: u64 = 1006632960;
+
+// After the clock, and at most the greatest time after it.
+fn waits(clock: Nanos, ready: Nanos) -> bool
+    ensures { λ r. ⌜ r ≡ (ltb (clock .0) (ready .0) && leb (ready .0) (clock .0 + greatestTime)) ⌝ }
+{
+    let now = times::nanos_number(clock);
+    let then = times::nanos_number(ready);
+    if now < then {
+        return then - now <= GREATEST_TIME;
+    }
+    false
+}
+
+// An FLR end isn't after its ready time.
+fn sound_cause(cause: Cause, ready: Nanos) -> bool
+    ensures { λ r. ⌜ r ≡ soundCause cause ready ⌝ }
+{
+    match cause {
+        Cause::LinkUp => true,
+        Cause::D3hot => true,
+        Cause::Flr(end) => times::by_then(end, ready),
+    }
+}
+
+fn sound_phase(clock: Nanos, phase: Phase) -> bool
+    ensures { λ r. ⌜ r ≡ soundPhase clock phase ⌝ }
+{
+    match phase {
+        Phase::Down => true,
+        Phase::Pending(cause, ready) => waits(clock, ready) & sound_cause(cause, ready),
+        Phase::Ready => true,
+    }
+}
+
+// No Down slot with the link up, nor any other with it down.
+fn matches_link(link: bool, phase: Phase) -> bool
+    ensures { λ r. ⌜ r ≡ matchesLink link phase ⌝ }
+{
+    match phase {
+        Phase::Down => !link,
+        Phase::Pending(_, _) => link,
+        Phase::Ready => link,
+    }
+}
+
+fn sound_status(dev: Dev, status: Status) -> bool
+    ensures { λ r. ⌜ r ≡ soundStatus dev status ⌝ }
+{
+    let clock = dev.clock;
+    let phase = status.phase;
+    sound_phase(clock, phase) & matches_link(dev.link, phase)
+}
+
+// Each of the card's slots.
+fn sound_statuses(slots: usize, dev: Dev, statuses: [Status; 32]) -> bool
+    requires { ⌜ slots ≤ 32 ⌝ }
+    ensures { λ r. ⌜ r ≡ soundStatuses slots dev statuses ⌝ }
+{
+    let mut i = 0;
+    while i < slots {
+        let status = statuses[i];
+        if sound_status(dev, status) {
+            i += 1;
+        } else {
+            return false;
+        }
+    }
+    true
+}
+
+// The cell of the message that stands k places behind the oldest.
+fn cell_at(cells: &[u32], start: usize, k: usize) -> u32
+    requires { ⌜ (start < length (now cells)) × (k < length (now cells)) ⌝ }
+    ensures { λ r. ⌜ r ≡ getD (now (cells .entry)) (placeOf (length (now (cells .entry))) start k) 0 ⌝ }
+{
+    let room = cells.len() - start;
+    if k < room {
+        cells[start + k]
+    } else {
+        cells[k - room]
+    }
+}
+
+// Each live cell is below 2^20.
+fn sound_cells(depth: usize, cells: &[u32], start: usize) -> bool
+    requires { ⌜ (start < length (now cells)) × (depth ≤ length (now cells)) ⌝ }
+    ensures { λ r. ⌜ r ≡ soundCells depth (now (cells .entry)) start ⌝ }
+{
+    let mut k = 0;
+    while k < depth {
+        if cell_at(cells, start, k) < 1048576 {
+            k += 1;
+        } else {
+            return false;
+        }
+    }
+    true
+}
+
+// A DRS isn't owed with the link down, nor with every slot Ready.
+fn sound_owed(dev: Dev, statuses: [Status; 32]) -> bool
+    ensures { λ r. ⌜ r ≡ soundOwed dev statuses ⌝ }
+{
+    if dev.owed {
+        dev.link & !readiness::all_ready(statuses)
+    } else {
+        true
+    }
+}
+
+// The test for refusal 5.
+pub fn is_sound(setup: Setup, dev: Dev, statuses: [Status; 32], cells: &[u32]) -> bool
+    requires { ⌜ setup .slots ≤ 32 ⌝ }
+    ensures { λ r. ⌜ ((live : List ℕ) → r ≡ sound setup (state dev statuses live (now (cells .entry)))) ⌝ }
+{
+    let queue = dev.queue;
+    let control = dev.control;
+    let start = queue.start;
+    let depth = queue.depth;
+    if CLOCK_END < times::nanos_number(dev.clock) {
+        return false;
+    }
+    if cells.len() <= start {
+        return false;
+    }
+    if cells.len() < depth {
+        return false;
+    }
+    sound_cells(depth, cells, start)
+        & (control.signalling <= 2)
+        & sound_statuses(setup.slots, dev, statuses)
+        & sound_owed(dev, statuses)
+}

@@ -1,0 +1,13 @@
+pub mod Cases
+pub mod Refusals
+pub mod Lent
+pub mod SettingUp
+pub mod Running
+pub mod Accepting
+pub mod Looping
+pub mod Numbers
+pub mod Prepared
+pub mod StateKept
+pub mod TwoRecords
+pub mod Demand3
+pub mod OnBytes

@@ -1,0 +1,140 @@
+// A call's trace, the carried bytes and then the input, record by record; answers, and the bytes carried to the next call.
+ghost use mathlib.Core.Path.{_≡_};
+ghost use mathlib.Core.Bool.{true, false};
+ghost use mathlib.Core.List.{_++_};
+ghost use Prim.Native.Nat.{_+_, _≤_, _<_};
+ghost use lib.ListN.{length, getD, take, drop};
+ghost use lib.Seq.{paste};
+ghost use Rattle.trace.specs.Format.{sizeOf, pad, longest, next};
+ghost use Rattle.trace.specs.Feed.{gathered};
+ghost use Rattle.feed.specs.Gathering.{gatheredBytes};
+use crate::Gathered;
+use crate::Port;
+use readiness::Dev;
+
+fn wide(x: u8) -> usize
+    ensures { λ r. ⌜ r ≡ x ⌝ }
+{
+    x as usize
+}
+
+// How many bytes a record of each kind has, its byte of kind with them; 0 where there is no such kind.
+const SIZES: [usize; 14] = [0, 5, 4, 8, 17, 1, 1, 1, 1, 1, 2, 2, 7, 1];
+
+pub fn size_of(kind: u8) -> usize
+    ensures { λ r. ⌜ r ≡ sizeOf kind ⌝ }
+{
+    let k = wide(kind);
+    if k < 14 { SIZES[k] } else { 0 }
+}
+
+// Byte j of a call's trace: what is carried, and then the input.
+fn byte_at(carried: [u8; 16], len: usize, input: &[u8], j: usize) -> u8
+    requires { ⌜ (len ≤ 16) × (j < len + length (now input)) ⌝ }
+    ensures { λ r. ⌜ r ≡ getD (take len carried ++ now (input .entry)) j 0 ⌝ }
+{
+    if j < len { carried[j] } else { input[j - len] }
+}
+
+// The n bytes of the input from `at` on, and zeros after them.
+fn copy_input(input: &[u8], at: usize, n: usize) -> [u8; 17]
+    requires { ⌜ (n ≤ 17) × (at + n ≤ length (now input)) ⌝ }
+    ensures { λ r. ⌜ r ≡ pad longest (take n (drop at (now (input .entry)))) ⌝ }
+{
+    let mut bytes = [0u8; 17];
+    let mut j = 0;
+    while j < n {
+        bytes[j] = input[at + j];
+        j += 1;
+    }
+    bytes
+}
+
+// The n bytes of a call's trace from `at` on, and zeros after them.
+fn copy(carried: [u8; 16], len: usize, input: &[u8], at: usize, n: usize) -> [u8; 17]
+    requires { ⌜ (len ≤ 16) × (n ≤ 17) × (at + n ≤ len + length (now input)) ⌝ }
+    ensures { λ r. ⌜ r ≡ pad longest (take n (drop at (take len carried ++ now (input .entry)))) ⌝ }
+{
+    if len <= at {
+        return copy_input(input, at - len, n);
+    }
+    let mut bytes = [0u8; 17];
+    let mut j = 0;
+    while j < n {
+        bytes[j] = byte_at(carried, len, input, at + j);
+        j += 1;
+    }
+    bytes
+}
+
+// The call's end: its number, and how many of the bytes are carried.
+fn ended(number: u8, bytes: [u8; 17], count: usize) -> Gathered
+    ensures { λ r. ⌜ r ≡ record { runs = false; number = number; bytes = bytes; count = count } ⌝ }
+{
+    Gathered {
+        runs: false,
+        number: number,
+        bytes: bytes,
+        count: count,
+    }
+}
+
+// What stands at `at` in a call's trace, with `room` answer bytes left.
+pub fn gather(carried: [u8; 16], len: usize, input: &[u8], at: usize, room: usize) -> Gathered
+    requires { ⌜ (len ≤ 16) × (at ≤ len + length (now input)) ⌝ }
+    ensures { λ r. ⌜ gatheredBytes r ≡ gathered (drop at (take len carried ++ now (input .entry))) room (next (drop at (take len carried ++ now (input .entry)))) ⌝ }
+{
+    let there = len + input.len() - at;
+    if there == 0 {
+        return ended(0, [0; 17], 0);
+    }
+    let size = size_of(byte_at(carried, len, input, at));
+    if size == 0 {
+        return ended(31, [0; 17], 0);
+    }
+    if there < size {
+        let bytes = copy(carried, len, input, at, there);
+        return ended(0, bytes, there);
+    }
+    let bytes = copy(carried, len, input, at, size);
+    if room < 8 {
+        return ended(30, bytes, size - 1);
+    }
+    Gathered {
+        runs: true,
+        number: 0,
+        bytes: bytes,
+        count: size,
+    }
+}
+
+// The port after a call: the first n bytes are carried, with zeros after them.
+pub fn keep(dev: Dev, bytes: [u8; 17], n: usize, broken: bool) -> Port
+    requires { ⌜ n ≤ 16 ⌝ }
+    ensures { λ r. ⌜ r ≡ record { dev = dev; carried = pad 16 (take n bytes); «carried_len» = n; broken = broken } ⌝ }
+{
+    let mut carried = [0u8; 16];
+    let mut j = 0;
+    while j < n {
+        carried[j] = bytes[j];
+        j += 1;
+    }
+    Port {
+        dev: dev,
+        carried: carried,
+        carried_len: n,
+        broken: broken,
+    }
+}
+
+// The 8 bytes of an answer go to `answers`, from `at` on.
+pub fn put(answers: &mut [u8], at: usize, answer: [u8; 8])
+    requires { ⌜ at + 8 ≤ length (now answers) ⌝ }
+    ensures { λ _. ⌜ now (answers .exit) ≡ paste (now (answers .entry)) at answer 8 ⌝ }
+{
+    let mut j: usize = 0;
+    while j < 8 {
+        answers[at + j] = answer[j];
+        j += 1;
+    }
+}

@@ -1,0 +1,74 @@
+// Statuses as they are lent, and what a set-up starts with.
+ghost use mathlib.Core.Path.{_≡_};
+ghost use mathlib.Core.List.{_++_};
+ghost use Prim.Native.Nat.{_-_};
+ghost use lib.ListN.{length, take, replicate};
+ghost use Rattle.readiness.specs.Status.{ready};
+ghost use Rattle.feed.specs.SettingUp.{freshDev, freshPort};
+use crate::Port;
+use frs_queue::Queue;
+use readiness::Control;
+use readiness::Dev;
+use readiness::Phase;
+use readiness::Status;
+
+// The first n statuses; past them every slot counts as Ready.
+pub fn padded(statuses: [Status; 32], n: usize) -> [Status; 32]
+    ensures { λ r. ⌜ r ≡ take n statuses ++ replicate (32 - n) ready ⌝ }
+{
+    let mut out = statuses;
+    let mut i = n;
+    while i < 32 {
+        out[i] = Status {
+            phase: Phase::Ready,
+        };
+        i += 1;
+    }
+    out
+}
+
+// Every queue cell becomes 0.
+pub fn clear_cells(cells: &mut [u32])
+    ensures { λ _. ⌜ now (cells .exit) ≡ replicate (length (now (cells .entry))) 0 ⌝ }
+{
+    let mut i: usize = 0;
+    while i < cells.len() {
+        cells[i] = 0;
+        i += 1;
+    }
+}
+
+// Clock 0, link down, nothing owed, all port bits 0, the queue empty at cell 0.
+fn fresh_dev() -> Dev
+    ensures { λ r. ⌜ r ≡ freshDev ⌝ }
+{
+    Dev {
+        clock: times::nanos_of(0),
+        link: false,
+        owed: false,
+        drs_received: false,
+        control: Control {
+            visibility: false,
+            frs_interrupt: false,
+            signalling: 0,
+        },
+        queue: Queue {
+            start: 0,
+            depth: 0,
+            received: false,
+            overflow: false,
+        },
+    }
+}
+
+// Nothing carried or broken.
+pub fn fresh_port() -> Port
+    ensures { λ r. ⌜ r ≡ freshPort ⌝ }
+{
+    Port {
+        dev: fresh_dev(),
+        carried: [0; 16],
+        carried_len: 0,
+        broken: false,
+    }
+}

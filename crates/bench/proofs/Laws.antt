@@ -1,0 +1,75 @@
+-- What holds of the lent entries and of the copies that they make.
+-- Assumes nothing.
+use Prim.Native.Nat.{ℕ, zero, suc, _-_, _<_, _≤_}
+use mathlib.Core.Path.{_≡_, refl, ap, sym, _∙_}
+use mathlib.Core.List.{List, [], _∷_, _++_}
+use native.Mathlib.Omega.{arith}
+use lib.ListN.{length, getD, set, take, replicate}
+use lib.Seq.{getD-set-same, set-out}
+use Rattle.trace.specs.Lent.{unchanged}
+use Rattle.trace.proofs.Refusing.{stops-refused, feeds-stopped}
+use Rattle.readiness.specs.declared.Status.{Status}
+use Rattle.readiness.specs.declared.Setup.{Setup}
+use Rattle.readiness.specs.Status.{ready}
+use Rattle.feed.specs.declared.Port.{Port}
+use Rattle.feed.specs.Held.{Held, held, lentOf}
+use Rattle.feed.specs.Refusals.{setUpRefusal}
+use Rattle.feed.specs.SettingUp.{Prepared, setsUp}
+use Rattle.feed.specs.Feeding.{bench, feeds}
+use Rattle.feed.specs.Claim.{refusalOf}
+use Rattle.feed.proofs.Lent.{length-lent}
+use Rattle.feed.proofs.Prepared.{set-up-number, set-up-refused}
+use Rattle.bench.specs.Statuses.{storedOver}
+use Rattle.bench.specs.Chain.{LentCall, leftBy, WasSetUp}
+use Rattle.bench.proofs.Copies.{by-le}
+use Rattle.bench.proofs.Padding.{given-few, stored-few, stored-many, set-up-many, fed-many}
+
+-- ---- Slot statuses
+-- A STATUS THAT WAS REPLACED is read back
+pub replaced-at : (l : List Status) (slot : ℕ) (s past : Status) → slot < length l → getD (set l slot s) slot past ≡ s
+replaced-at l slot s past h = getD-set-same l slot s past h
+
+-- PAST THE END nothing is replaced
+pub replaced-past-end : (l : List Status) (slot : ℕ) (s : Status) → length l ≤ slot → set l slot s ≡ l
+replaced-past-end l slot s h = set-out l slot s h
+
+ready-get : (m k : ℕ) → getD (replicate m ready) k ready ≡ ready
+ready-get zero k = refl
+ready-get (suc m) zero = refl
+ready-get (suc m) (suc k) = ready-get m k
+
+pad-get : (l : List Status) (i m k : ℕ) → k < i → getD (take i l ++ replicate m ready) k ready ≡ getD l k ready
+pad-get l zero m k h = absurd (omega arith)
+pad-get [] (suc i) m k h = ready-get m k
+pad-get (s ∷ l) (suc i) m zero h = refl
+pad-get (s ∷ l) (suc i) m (suc k) h = pad-get l i m k (omega arith)
+
+-- COPIED IN: each of the 32 slots has its status, and Ready past the end
+pub copied-at : (l : List Status) (slot : ℕ) → slot < 32 → getD (lentOf 32 l) slot ready ≡ getD l slot ready
+copied-at l slot h = pad-get l 32 (32 - length (take 32 l)) slot h
+
+-- COPIED IN AND OUT AGAIN: nothing changes, whatever is lent
+pub copied-back : (l : List Status) → storedOver l (lentOf 32 l) ≡ l
+copied-back l =
+    by-le (length l) 32
+    (λ h. stored-few l (lentOf 32 l) h (length-lent 32 l) ∙ given-few l h)
+    (λ h. stored-many l (lentOf 32 l) h (length-lent 32 l) refl)
+
+-- ---- Refusals
+module _ (setup : Setup) (defaults : List ℕ) (h : Held) where
+  -- A REFUSED CALL of feed gives its number, consumes and writes nothing, and every lent byte is as it was
+  pub refused-call : (c : LentCall) (n : ℕ) → refusalOf setup defaults h ≡ suc n → leftBy c ≡ feeds setup defaults h (c .input) (c .answers) → leftBy c ≡ unchanged h (c .answers) (suc n)
+  refused-call c n r e = e ∙ feeds-stopped (bench setup defaults) h (c .input) (c .answers) n (stops-refused (bench setup defaults) h n r)
+
+  -- A REFUSED SET-UP changes nothing
+  pub refused-set-up : (n : ℕ) (port : Port) (statuses : List Status) (live cells : List ℕ) → WasSetUp setup defaults h (suc n) port statuses live cells → held port statuses live cells ≡ h
+  refused-set-up n port statuses live cells e =
+      let r : setUpRefusal setup defaults h ≡ suc n = sym (set-up-number setup defaults h) ∙ ap (λ (x : Prepared). x .number) (sym e) in
+      ap (λ (x : Prepared). x .held) (e ∙ set-up-refused setup defaults h n r)
+
+  -- MORE THAN 32 STATUSES are refused with 1, and nothing changes
+  pub too-many-set-up : 32 < length (h .statuses) → setsUp setup defaults h ≡ record { number = 1; held = h }
+  too-many-set-up m = set-up-many setup defaults h m
+
+  pub too-many-fed : (input answers : List ℕ) → 32 < length (h .statuses) → feeds setup defaults h input answers ≡ unchanged h answers 1
+  too-many-fed input answers m = fed-many setup defaults h input answers m

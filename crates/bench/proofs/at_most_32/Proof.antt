@@ -1,0 +1,16 @@
+use native.Mathlib.Omega.{arith}
+use Rattle.bench.proofs.at_most_32.Statement.{statement}
+use Rattle.bench.proofs.at_most_32.Tie as tie
+use Rattle.bench.proofs.at_most_32.Reads as reads
+use Rattle.bench.proofs.at_most_32.Lts as lts
+
+-- src/lib.rt:61:1
+returns : tie.Need-returns
+returns c = omega arith
+
+-- src/lib.rt:61:1
+returns-2 : tie.Need-returns-2
+returns-2 c = omega arith
+
+pub at-most-32-spec : {M : Type 1} → statement M
+at-most-32-spec = tie.close (tie.spec returns returns-2)

@@ -1,0 +1,4 @@
+pub mod Statuses
+pub mod Entries
+pub mod First
+pub mod Chain

@@ -1,0 +1,7 @@
+pub mod Again
+pub mod Walks
+pub mod Lent
+pub mod Locals
+pub mod Fronts
+pub mod Items
+pub mod Total

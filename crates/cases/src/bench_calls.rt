@@ -1,0 +1,43 @@
+// The two calls that the cases drive.
+use crate::turn::Turn;
+use feed::Fed;
+use feed::SetUp;
+use readiness::Setup;
+
+pub fn set_up_lent(
+    setup: Setup,
+    lent: usize,
+    turn: Turn,
+    live: &mut [u32],
+    defaults: &[u32],
+    cells: &mut [u32],
+) -> SetUp {
+    let port = turn.port;
+    let statuses = turn.statuses;
+    bench::set_up_first(setup, port, statuses, lent, live, defaults, cells)
+}
+
+pub fn feed_lent(
+    setup: Setup,
+    lent: usize,
+    turn: Turn,
+    live: &mut [u32],
+    defaults: &[u32],
+    cells: &mut [u32],
+    input: &[u8],
+    answers: &mut [u8],
+) -> Fed {
+    let port = turn.port;
+    let statuses = turn.statuses;
+    bench::feed_first(
+        setup,
+        port,
+        statuses,
+        lent,
+        live,
+        defaults,
+        cells,
+        input,
+        answers,
+    )
+}

@@ -1,0 +1,73 @@
+// Reads a stream of cases from standard input, drives set-up and feed, and writes what they gave and the state afterwards. A
+// malformed stream ends it with `bad case` on standard error; what was written before stands.
+mod input; // bytes and numbers from standard input
+mod output; // bytes and numbers to standard output
+mod image; // a state as bytes
+mod front; // what a case lends: lengths and the set-up
+mod turn; // what goes from one operation to the next
+mod bench_calls; // the two calls that the cases drive
+mod operations; // set-up, feed, and lending a state
+mod running; // one case
+
+use input::Byte;
+use input::next_byte;
+use running::run_case;
+
+const VERSION: u8 = 1;
+
+// After a case, or at the end of the stream: whether the stream goes on, and whether all was good.
+pub struct Progress {
+    pub goes_on: bool,
+    pub good: bool,
+}
+
+fn next_case() -> Progress {
+    let first = next_byte();
+    match first {
+        Byte::End => Progress {
+            goes_on: false,
+            good: true,
+        },
+        Byte::Is(slots) => {
+            let good = run_case(slots);
+            Progress {
+                goes_on: good,
+                good: good,
+            }
+        }
+    }
+}
+
+// A proved loop has to end, and nothing says that a stream does: it counts its turns down from a number that no run uses up.
+fn run_cases() -> bool {
+    let mut turns = u64::MAX;
+    let mut goes_on = true;
+    let mut good = true;
+    while turns > 0 && goes_on {
+        let p = next_case();
+        goes_on = p.goes_on;
+        good = p.good;
+        turns -= 1;
+    }
+    good
+}
+
+fn run_stream() -> bool {
+    let first = next_byte();
+    match first {
+        Byte::End => false,
+        Byte::Is(version) => {
+            if version == VERSION {
+                run_cases()
+            } else {
+                false
+            }
+        }
+    }
+}
+
+fn main() {
+    if !run_stream() {
+        io::write_all(libc::STDERR_FILENO, b"bad case\n");
+    }
+}

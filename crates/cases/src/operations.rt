@@ -1,0 +1,182 @@
+// The operations of a case, and what each writes.
+ghost use Prim.Native.Nat.{_≤_};
+use crate::bench_calls::feed_lent;
+use crate::bench_calls::set_up_lent;
+use crate::image::image_size;
+use crate::image::is_good_image;
+use crate::image::port_in;
+use crate::image::put_port;
+use crate::image::put_statuses;
+use crate::image::statuses_in;
+use crate::input::fill;
+use crate::input::read_words;
+use crate::input::size;
+use crate::input::two_at;
+use crate::output::put;
+use crate::output::put_four;
+use crate::output::write_first;
+use crate::output::write_words;
+use crate::turn::Turn;
+use crate::turn::ended;
+use crate::turn::turned;
+use feed::Fed;
+use feed::Port;
+use readiness::Setup;
+use readiness::Status;
+
+fn write_state(lent: usize, port: Port, statuses: [Status; 32], live: &[u32], cells: &[u32]) {
+    let mut image = [0u8; 614];
+    put_port(&mut image, port);
+    put_statuses(&mut image, statuses);
+    write_first(&image, image_size(lent));
+    write_words(live);
+    write_words(cells);
+}
+
+// After a call: the state is written.
+fn after_call(
+    lent: usize,
+    port: Port,
+    statuses: [Status; 32],
+    live: &[u32],
+    cells: &[u32],
+) -> Turn {
+    write_state(lent, port, statuses, live, cells);
+    turned(true, port, statuses)
+}
+
+fn write_number(number: u8) {
+    let one = [number; 1];
+    write_first(&one, 1);
+}
+
+// 01
+pub fn set_up_operation(
+    setup: Setup,
+    lent: usize,
+    turn: Turn,
+    live: &mut [u32],
+    defaults: &[u32],
+    cells: &mut [u32],
+) -> Turn {
+    let made = set_up_lent(setup, lent, turn, &mut *live, defaults, &mut *cells);
+    let port = made.port;
+    let statuses = made.statuses;
+    write_number(made.number);
+    after_call(lent, port, statuses, live, cells)
+}
+
+// A call's room and input length, and whether they and the input are there.
+pub struct Call {
+    pub good: bool,
+    pub room: usize,
+    pub n: usize,
+}
+
+// Room and input length, at most 4,096 each, and the input.
+fn read_call(input: &mut [u8]) -> Call {
+    let mut head = [0u8; 4];
+    let whole = fill(&mut head, 4);
+    let room = size(two_at(&head, 0));
+    let n = size(two_at(&head, 2));
+    Call {
+        good: whole & (room <= 4096) & fill(input, n),
+        room: room,
+        n: n,
+    }
+}
+
+fn at_most(n: usize, most: usize) -> usize
+    ensures { λ r. ⌜ r ≤ most ⌝ }
+{
+    if n <= most { n } else { most }
+}
+
+// The number and the two counts, then the whole room.
+fn write_answers(fed: Fed, answers: &[u8], room: usize) {
+    let mut bytes = [0u8; 9];
+    put(&mut bytes, 0, fed.number);
+    put_four(&mut bytes, 1, fed.consumed as u64);
+    put_four(&mut bytes, 5, fed.written as u64);
+    write_first(&bytes, 9);
+    write_first(answers, room);
+}
+
+// Feeds the first n bytes of the input with so much room for answers.
+fn feed_first(
+    setup: Setup,
+    lent: usize,
+    turn: Turn,
+    live: &mut [u32],
+    defaults: &[u32],
+    cells: &mut [u32],
+    input: &[u8],
+    answers: &mut [u8],
+    call: Call,
+) -> Fed {
+    let n = at_most(call.n, input.len());
+    let room = at_most(call.room, answers.len());
+    feed_lent(
+        setup,
+        lent,
+        turn,
+        live,
+        defaults,
+        cells,
+        &input[0..n],
+        &mut answers[0..room],
+    )
+}
+
+// 02: every answer byte is EEh before the call.
+pub fn feed_operation(
+    setup: Setup,
+    lent: usize,
+    turn: Turn,
+    live: &mut [u32],
+    defaults: &[u32],
+    cells: &mut [u32],
+) -> Turn {
+    let mut input = [0u8; 4096];
+    let mut answers = [0xEEu8; 4096];
+    let call = read_call(&mut input);
+    if !call.good {
+        return ended(turn, false);
+    }
+    let fed = feed_first(
+        setup,
+        lent,
+        turn,
+        &mut *live,
+        defaults,
+        &mut *cells,
+        &input,
+        &mut answers,
+        call,
+    );
+    let port = fed.port;
+    let statuses = fed.statuses;
+    write_answers(fed, &answers, call.room);
+    after_call(lent, port, statuses, live, cells)
+}
+
+// Reads a state image; false where it is malformed, and where the input ends before.
+fn read_state(lent: usize, image: &mut [u8], live: &mut [u32], cells: &mut [u32]) -> bool {
+    if !fill(&mut *image, image_size(lent)) {
+        return false;
+    }
+    if !is_good_image(image) {
+        return false;
+    }
+    if !read_words(live) {
+        return false;
+    }
+    read_words(cells)
+}
+
+// 03: a state replaces what is lent.
+pub fn lend_operation(lent: usize, live: &mut [u32], cells: &mut [u32]) -> Turn {
+    let mut image = [0u8; 614];
+    let good = read_state(lent, &mut image, live, cells);
+    turned(good, port_in(&image), statuses_in(&image))
+}

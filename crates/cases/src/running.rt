@@ -1,0 +1,133 @@
+// One case: what it lends, then its operations until 00.
+use crate::front::FRONT;
+use crate::front::Lengths;
+use crate::front::are_good_entries;
+use crate::front::lengths_in;
+use crate::front::setup_in;
+use crate::image::port_in;
+use crate::image::statuses_in;
+use crate::input::fill;
+use crate::input::operation_byte;
+use crate::input::read_words;
+use crate::operations::feed_operation;
+use crate::operations::lend_operation;
+use crate::operations::set_up_operation;
+use crate::turn::Turn;
+use crate::turn::ended;
+use crate::turn::turned;
+use readiness::Setup;
+
+// A case starts with everything at 0, statuses Down.
+fn first_turn() -> Turn {
+    let zeros = [0u8; 614];
+    turned(true, port_in(&zeros), statuses_in(&zeros))
+}
+
+// One operation; 00 ends the case, and any other number is a bad one.
+fn operate(
+    operation: u8,
+    setup: Setup,
+    lent: usize,
+    turn: Turn,
+    live: &mut [u32],
+    defaults: &[u32],
+    cells: &mut [u32],
+) -> Turn {
+    match operation {
+        1 => set_up_operation(setup, lent, turn, live, defaults, cells),
+        2 => feed_operation(setup, lent, turn, live, defaults, cells),
+        3 => lend_operation(lent, live, cells),
+        _ => ended(turn, operation == 0),
+    }
+}
+
+// The loop counts its turns down from a number that no run uses up.
+fn run_operations(
+    setup: Setup,
+    lent: usize,
+    live: &mut [u32],
+    defaults: &[u32],
+    cells: &mut [u32],
+) -> bool {
+    let mut turn = first_turn();
+    let mut turns = u64::MAX;
+    while turns > 0 && turn.goes_on {
+        let operation = operation_byte();
+        turn = operate(
+            operation,
+            setup,
+            lent,
+            turn,
+            &mut *live,
+            defaults,
+            &mut *cells,
+        );
+        turns -= 1;
+    }
+    turn.good
+}
+
+// Lends the first words and cells of each; false where a length is above its limit, and after a bad case.
+fn run_over(
+    setup: Setup,
+    lengths: Lengths,
+    live: &mut [u32],
+    defaults: &[u32],
+    cells: &mut [u32],
+) -> bool {
+    let l = lengths.live;
+    let d = lengths.defaults;
+    let c = lengths.cells;
+    if live.len() < l {
+        return false;
+    }
+    if defaults.len() < d {
+        return false;
+    }
+    if cells.len() < c {
+        return false;
+    }
+    run_operations(
+        setup,
+        lengths.statuses,
+        &mut live[0..l],
+        &defaults[0..d],
+        &mut cells[0..c],
+    )
+}
+
+// Reads the first n words; false where there are fewer, and where the input ends before.
+fn read_first(words: &mut [u32], n: usize) -> bool {
+    if n <= words.len() {
+        return read_words(&mut words[0..n]);
+    }
+    false
+}
+
+// The rest of a case after its first byte, the number of slots; false after a bad case.
+pub fn run_case(slots: u8) -> bool {
+    let mut front = [0u8; FRONT];
+    let mut live = [0u32; 2112];
+    let mut defaults = [0u32; 2112];
+    let mut cells = [0u32; 4200];
+    if !fill(&mut front, FRONT) {
+        return false;
+    }
+    if !are_good_entries(&front) {
+        return false;
+    }
+    let lengths = lengths_in(&front);
+    if lengths.statuses > 32 {
+        return false;
+    }
+    if !read_first(&mut defaults, lengths.defaults) {
+        return false;
+    }
+    run_over(
+        setup_in(slots, &front),
+        lengths,
+        &mut live,
+        &defaults,
+        &mut cells,
+    )
+}

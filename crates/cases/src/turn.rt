@@ -1,0 +1,33 @@
+// What goes from one operation of a case to the next, beside the lent slices.
+use feed::Port;
+use readiness::Status;
+
+// Whether the case goes on, whether all was good so far, the port and the statuses.
+pub struct Turn {
+    pub goes_on: bool,
+    pub good: bool,
+    pub port: Port,
+    pub statuses: [Status; 32],
+}
+
+// After an operation; a bad one ends the case.
+pub fn turned(good: bool, port: Port, statuses: [Status; 32]) -> Turn {
+    Turn {
+        goes_on: good,
+        good: good,
+        port: port,
+        statuses: statuses,
+    }
+}
+
+// The case's end, or a bad case.
+pub fn ended(turn: Turn, good: bool) -> Turn {
+    let port = turn.port;
+    let statuses = turn.statuses;
+    Turn {
+        goes_on: false,
+        good: good,
+        port: port,
+        statuses: statuses,
+    }
+}

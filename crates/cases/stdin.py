@@ -1,0 +1,353 @@
+#!/usr/bin/env python3
+"""Writes the stored stream of `cases`, and holds an output for it to what is written here beside each operation.
+
+    stdin.py > stdin            the stream
+    stdin.py OUTPUT             the numbers, statuses and answers in OUTPUT are those that are expected here, and every kind of
+                                record has given every status that it can give
+
+The cases: marked cases 1 to 10 of 01; every status for every kind that can give it; refusals 1 to 5, each clause of 5 alone;
+30 and 31; FRS in order of ready time, dropped, and with interrupts. `stdout` is what the independent implementation writes.
+"""
+import struct
+import sys
+
+VERSION = 1
+FLR_CAPABLE = 1 << 28
+GREATEST = 1006632960
+CLOCK_END = 10**15
+
+cases = []
+
+
+# ---- What a case lends
+
+def entry(reset=0, dl_up=0x00A, flr=0x005, d3hot=0, sends_frs=1):
+    return struct.pack('<HHHHB', reset, dl_up, flr, d3hot, sends_frs)
+
+
+class Case:
+    """A card whose slots have the codes of marked case 10; its operations, each with what it must give."""
+
+    def __init__(self, slots=1, cells=1, entries=(), defaults=(), statuses=None, live=None, default_words=None):
+        self.slots = slots
+        self.statuses = slots if statuses is None else statuses
+        self.live = 64 * slots if live is None else live
+        self.cells = cells
+        count = 64 * slots if default_words is None else default_words
+        self.defaults = [0] * count
+        for slot in range(count // 64):
+            self.defaults[64 * slot] = 0x56781234
+            self.defaults[64 * slot + 0x1D] = FLR_CAPABLE
+        for word, value in defaults:
+            self.defaults[word] = value
+        self.entries = list(entries) + [entry()] * (32 - len(entries))
+        self.operations = []
+        cases.append(self)
+
+    def bytes(self):
+        front = struct.pack('<BBHHHBH', self.slots, self.statuses, self.live, len(self.defaults), self.cells, 1, 8)
+        words = struct.pack('<%dI' % len(self.defaults), *self.defaults)
+        return front + b''.join(self.entries) + words + b''.join(o[0] for o in self.operations) + b'\0'
+
+    def state_size(self):
+        return 38 + 18 * self.statuses + 4 * (self.live + self.cells)
+
+    def set_up(self, number=0):
+        self.operations.append((b'\1', 'set-up', number))
+        return self
+
+    def feed(self, records, want, number=0, room=None, consumed=None):
+        """`want`: for each record completed its status, or its 8 bytes."""
+        trace = b''.join(records)
+        room = 8 * len(want) if room is None else room
+        head = struct.pack('<BHH', 2, room, len(trace))
+        consumed = (0 if number in (1, 2, 3, 4, 5) else len(trace)) if consumed is None else consumed
+        self.operations.append((head + trace, 'feed', number, records, want, room, consumed))
+        return self
+
+    def lend(self, statuses=None, **port):
+        statuses = [DOWN] * self.statuses if statuses is None else statuses
+        cells = port.pop('cells', [0] * self.cells)
+        words = struct.pack('<%dI' % self.live, *(self.defaults + [0] * self.live)[:self.live])
+        ring = struct.pack('<%dI' % self.cells, *cells)
+        self.operations.append((b'\3' + image(**port) + b''.join(statuses) + words + ring, 'lend'))
+        return self
+
+
+# ---- A state
+
+DOWN = struct.pack('<BBQQ', 0, 0, 0, 0)
+READY = struct.pack('<BBQQ', 2, 0, 0, 0)
+
+
+def pending(ready, cause=1, end=0):
+    return struct.pack('<BBQQ', 1, cause, ready, end)
+
+
+def image(clock=0, link=0, owed=0, bits=(0, 0, 0), visibility=0, interrupt=0, signalling=0, start=0, depth=0,
+          carried=b'', count=None, broken=0):
+    count = len(carried) if count is None else count
+    flags = bytes([link, owed, *bits, visibility, interrupt, signalling])
+    return struct.pack('<Q8sHHB16sB', clock, flags, start, depth, count, carried, broken)
+
+
+# ---- Records
+
+def advance(ns):
+    return struct.pack('<BI', 1, ns)
+
+
+def read(offset, slot=0, enables=15, word=None):
+    return bytes([2, slot, offset // 4 if word is None else word, enables])
+
+
+def write(offset, data, slot=0, enables=15, word=None):
+    return struct.pack('<BBBBI', 3, slot, offset // 4 if word is None else word, enables, data)
+
+
+def message(kind, code, number=0x0100, reason=0, tail=0x7F):
+    return bytes([4, kind, 0, 0, 0, number >> 8, number & 255, 0, tail, 0, 0, 0, 1, code, 0, 0, reason])
+
+
+def frs(number, reason):
+    return message(0x30, 9, number, reason)
+
+
+def hardware_set(offset, mask, slot=0, word=None):
+    return struct.pack('<BBBI', 12, slot, offset // 4 if word is None else word, mask)
+
+
+DRS = message(0x34, 8)
+UP, DOWN_LINK, COLD = b'\5', b'\6', b'\7'
+QUEUE, REMOVE, BITS = b'\x08', b'\x09', b'\x0D'
+
+
+def clear(bits):
+    return bytes([10, bits])
+
+
+def control(byte):
+    return bytes([11, byte])
+
+
+def done(data=0, interrupts=0, queued=0, dropped=0, status=0):
+    return struct.pack('<BBBBI', status, interrupts, queued, dropped, data)
+
+
+
+def ready_card(case):
+    """Set up, link up, and 10 ns later Ready."""
+    return case.set_up().feed([UP, advance(10)], [done(), done()])
+
+
+# ---- Marked cases
+
+Case(entries=[entry(flr=0xA1E)]).set_up(0)
+Case(entries=[entry(flr=0xA1F)]).set_up(3)
+Case(entries=[entry(dl_up=0x220)]).set_up().feed(
+    [UP, advance(1023), read(0), advance(1), read(0)], [0, 0, 17, 0, done(0x56781234)])
+ready_card(Case()).feed(
+    [write(0x78, 0x80AF), advance(5), read(0x78)], [0, done(queued=1), done(0xA0)])
+ready_card(Case()).feed(
+    [write(0x0C, 0x40), read(0x0C), write(0x78, 0x8000, enables=2), advance(5), read(0x0C)],
+    [0, done(0x40), 0, done(queued=1), done(0)])
+ready_card(Case()).feed(
+    [hardware_set(0x44, 0x8000), DOWN_LINK, UP, advance(10), read(0x44), COLD, UP, advance(10), read(0x44)],
+    [0, 0, 0, 0, done(0x8000), 0, 0, 0, done(0)])
+ready_card(Case()).feed(
+    [control(2), frs(0x0105, 3), frs(0x0106, 2), QUEUE, REMOVE, QUEUE, BITS],
+    [0, done(interrupts=1, queued=1), done(interrupts=2, dropped=1), done(0x130105), 0, done(0), done(7)])
+Case().set_up().feed([control(1), UP, read(0, enables=3)], [0, 0, done(1, status=16)])
+Case().lend(clock=CLOCK_END - 1).feed([advance(1)], [0]).lend(clock=CLOCK_END - 1).feed([advance(2)], [22])
+Case().set_up().feed(
+    [b'\x0B\3', b'\5', b'\2\0\0\x0F', b'\1\x0A\0\0\0', b'\2\0\0\x0F', b'\3\0\x1E\2\0\x80\0\0', b'\2\0\0\x0F', b'\1\5\0\0\0',
+     b'\x08'],
+    [bytes(8), bytes(8), b'\x10\0\0\0\1\0\xFF\xFF', bytes(8), b'\0\0\0\0\x34\x12\x78\x56', bytes(8),
+     b'\x12\0\0\0\xFF\xFF\xFF\xFF', b'\0\1\1\0\0\0\0\0', b'\0\0\0\0\0\1\x13\0'])
+
+# ---- Every status of every kind
+
+Case().set_up().feed(
+    [read(0), write(4, 7), read(0, slot=1), read(0, slot=1, enables=16), read(0, word=64), read(0, enables=16), write(4, 7, slot=1),
+     write(4, 7, word=64), write(4, 7, enables=16), DRS, DOWN_LINK, hardware_set(4, 1), control(16), control(12)],
+    [done(0xFFFFFFFF, status=18), 18, 20, 20, 21, 24, 20, 21, 24, 23, 23, 23, 24, 24])
+ready_card(Case()).feed(
+    [UP, read(0, slot=1), read(0, word=64), read(0, enables=16), write(4, 0x40, slot=1), write(4, 0x40, word=64),
+     write(4, 0x40, enables=16), hardware_set(4, 1, slot=1), hardware_set(4, 1, word=64), hardware_set(4, 0xFFFFFFFF), read(4),
+     write(4, 0xF9000147), read(4), message(0x34, 9), message(0x30, 8), message(0x34, 8, tail=0x7E)],
+    [23, 20, 21, 24, 20, 21, 24, 20, 21, 0, done(0xF9000000), 0, done(0x147), 19, 19, 19])
+Case().set_up().feed(
+    [control(1), UP, read(0), read(0, enables=1), read(4), write(4, 7), hardware_set(4, 1), control(0), read(0, enables=3)],
+    [0, 0, done(0xFFFF0001, status=16), 17, 17, 17, 23, 0, 17])
+ready_card(Case()).feed(
+    [BITS, clear(4), BITS, DRS, BITS, clear(0xF8), BITS, clear(0xFF), BITS],
+    [done(4), 0, done(0), 0, done(4), 0, done(4), 0, done(0)])
+# FLR in progress for 100 ms, then CRS until its time has passed; FLR time 0; without the capability.
+ready_card(Case(entries=[entry(flr=0xA03)])).feed(
+    [write(0x78, 0x8000), read(0, enables=5), write(4, 7), advance(99999999), read(0), advance(1), read(0), write(4, 7),
+     advance(663295), read(0), advance(1), read(0)],
+    [0, done(0x00FF00FF, status=18), 18, 0, 18, 0, 17, 17, 0, 17, done(queued=1), 0])
+ready_card(Case(entries=[entry(flr=0)])).feed([write(0x78, 0x8000), read(0)], [done(queued=1), 0])
+ready_card(Case(defaults=[(0x1D, 0)])).feed([write(0x78, 0x80FF), read(0x78)], [0, done(0xFF)])
+# D3hot to D0, with No_Soft_Reset off and on; 1 and 2 are not taken.
+ready_card(Case(entries=[entry(d3hot=7)])).feed(
+    [write(0x3C, 0x55), write(0x44, 0x101), write(0x44, 3), read(0x44), write(0x44, 0x100), read(0), advance(7), read(0x3C),
+     read(0x44), QUEUE],
+    [0, 0, 0, done(3), 0, 17, done(queued=1), done(0), done(0x100), done(0x120100)])
+ready_card(Case(entries=[entry(d3hot=7)], defaults=[(0x11, 8)])).feed(
+    [write(0x3C, 0x55), write(0x44, 3), write(0x44, 0), advance(7), read(0x3C)], [0, 0, 0, done(queued=1), done(0x55)])
+
+# ---- Refusals of a set-up, by set-up and by feed
+
+ONE = [advance(1)]
+Case(slots=0).set_up(1).feed(ONE, [], 1)
+Case(slots=33, statuses=32, live=2112, default_words=2112).set_up(1).feed(ONE, [], 1)
+Case(statuses=2).set_up(1).feed(ONE, [], 1)
+Case(live=63).set_up(1).feed(ONE, [], 1)
+Case(default_words=65).set_up(1).feed(ONE, [], 1)
+Case(cells=0).set_up(2).feed(ONE, [], 2)
+Case(cells=4096).set_up(2)
+Case(cells=4095).set_up(0)
+for bad in (entry(reset=0xA1F), entry(dl_up=0xA1F), entry(flr=0xFFFF), entry(d3hot=0x1000)):
+    Case(entries=[bad]).set_up(3).feed(ONE, [], 3)
+Case(entries=[entry(), entry(reset=0xFFFF)]).set_up(0).feed(ONE, [0])
+for word, bit in ((0x1E, 15), (0x1E, 21), (0x11, 0), (0x11, 1)):
+    Case(defaults=[(word, 1 << bit)]).set_up(4).feed(ONE, [], 4)
+Case(slots=0, cells=0, entries=[entry(reset=0xFFFF)]).set_up(1)
+
+# ---- Each clause of 5 alone; and states that are sound at their edges
+
+five = Case(cells=2)
+for state in (
+        dict(clock=CLOCK_END + 1),
+        dict(start=2),
+        dict(depth=3),
+        dict(start=1, depth=1, cells=[0, 1 << 20]),
+        dict(signalling=3),
+        dict(signalling=255),
+        dict(clock=5, link=1, statuses=[pending(5)]),
+        dict(clock=5, link=1, statuses=[pending(6 + GREATEST)]),
+        dict(clock=5, link=1, statuses=[pending(9, cause=2, end=10)]),
+        dict(link=1),
+        dict(statuses=[READY]),
+        dict(statuses=[pending(1)]),
+        dict(owed=1),
+        dict(owed=1, link=1, statuses=[READY]),
+        dict(carried=b'\x0E'),
+        dict(carried=b'\1\0\0\0\0'),
+        dict(carried=b'\4' * 16, count=17),
+        dict(carried=b'\2', broken=1, clock=CLOCK_END + 1)):
+    five.lend(**state).feed(ONE, [], 5)
+five.lend(clock=CLOCK_END, signalling=2, start=1, depth=2, cells=[(1 << 20) - 1, 0], carried=b'\2\0\0').feed([b'\x0F'], [18])
+five.lend(clock=5, link=1, owed=1, statuses=[pending(5 + GREATEST, cause=2, end=4)]).feed([read(0)], [17])
+five.lend(link=1, statuses=[READY], start=1, depth=1, cells=[1 << 20, 0x30007]).feed([QUEUE], [done(0x130007)])
+
+# ---- 30 and 31, carried bytes
+
+Case().set_up().feed([UP, read(0), read(0)], [0, 17], 30, room=23, consumed=8).feed([b'\x0F'], [17]).feed(
+    [DOWN_LINK], [], 30, room=7, consumed=0).feed([read(0)[:3]], []).feed([b'\x0F'], [], 30, room=0, consumed=0).feed(
+        [b'\x0F', DOWN_LINK], [17, 0])
+Case().set_up().feed([DRS[:9]], []).feed([DRS[9:16]], []).feed([], []).feed([DRS[16:]], [23])
+for kind in (b'\0', b'\x0E', b'\xFF'):
+    Case().set_up().feed([UP, kind, UP], [0], 31, consumed=1).feed([], [], 31, consumed=0).feed(
+        [UP], [], 31, consumed=0).set_up().feed([UP], [0])
+Case().set_up().feed([b'\0'], [], 31, room=0, consumed=0)
+
+# ---- What arrives, and in which order
+
+# Three slots, ready in the order 2, 0, 1; a queue of 2.
+three = Case(slots=3, cells=2, entries=[entry(flr=30), entry(flr=40), entry(flr=20)])
+ready_card(three).feed(
+    [control(2)] + [write(0x78, 0x8000, slot=s) for s in range(3)]
+    + [advance(40), BITS, QUEUE, REMOVE, QUEUE, REMOVE, clear(7)]
+    + [write(0x78, 0x8000, slot=s) for s in range(3)] + [advance(100)]
+    + [write(0x78, 0x8000, slot=s) for s in range(3)] + [advance(100), BITS],
+    [0, 0, 0, 0, done(interrupts=3, queued=2, dropped=1), done(7), done(0x230102), 0, done(0x130100), 0, 0,
+     0, 0, 0, done(interrupts=3, queued=2, dropped=1), 0, 0, 0, done(dropped=3), done(3)])
+# Ties go by slot number, and a slot that sends no FRS sends none.
+ready_card(Case(slots=3, cells=4, entries=[entry(), entry(sends_frs=0), entry()])).feed(
+    [write(0x78, 0x8000, slot=s) for s in (2, 1, 0)] + [advance(5), QUEUE, REMOVE, QUEUE],
+    [0, 0, 0, done(queued=2), done(0x230100), 0, done(0x130102)])
+# The DRS at link up: signalled by an interrupt, by the port's own FRS, or not at all.
+Case().set_up().feed(
+    [control(4), UP, advance(9), advance(1), DRS, DOWN_LINK, BITS, control(10), UP, advance(10), QUEUE, DOWN_LINK, QUEUE, BITS],
+    [0, 0, 0, done(interrupts=4), 0, 0, 0, 0, 0, done(interrupts=1, queued=1), done(0x110008), 0, 0, done(1)])
+Case(entries=[entry(dl_up=0)]).set_up().feed([control(4), UP, read(0)], [0, done(interrupts=4), 0])
+
+
+# ---- An output is held to what is expected
+
+STATUSES = {1: (0, 22), 2: (0, 16, 17, 18, 20, 21, 24), 3: (0, 17, 18, 20, 21, 24), 4: (0, 19, 23), 5: (0, 23), 6: (0, 23),
+            7: (0,), 8: (0,), 9: (0,), 10: (0,), 11: (0, 24), 12: (0, 20, 21, 23), 13: (0,)}
+SIZES = {1: 5, 2: 4, 3: 8, 4: 17, 10: 2, 11: 2, 12: 7}
+
+
+class Check:
+    def __init__(self, output):
+        self.output, self.at, self.wrong, self.seen = output, 0, 0, set()
+
+    def take(self, n):
+        self.at += n
+        return self.output[self.at - n:self.at]
+
+    def say(self, where, what):
+        self.wrong += 1
+        print('%s: %s' % (where, what))
+
+    def answer(self, where, kind, got, want):
+        self.seen.add((kind, got[0]))
+        want = bytes([want]) if isinstance(want, int) else want
+        if got[:len(want)] != want:
+            self.say(where, 'answer %s, not %s' % (got.hex(), want.hex()))
+
+    def feed(self, where, operation, carried):
+        number, consumed, written = struct.unpack('<BII', self.take(9))
+        _, _, want_number, records, want, room, want_consumed = operation
+        answers = self.take(room)
+        if (number, consumed, written) != (want_number, want_consumed, 8 * len(want)):
+            self.say(where, 'number %d, consumed %d, written %d' % (number, consumed, written))
+        trace = carried + b''.join(records)[:consumed]
+        for i, w in enumerate(want):
+            kind = trace[0]
+            trace = trace[SIZES.get(kind, 1):]
+            self.answer('%s record %d' % (where, i), kind, answers[8 * i:8 * i + 8], w)
+        if answers[written:] != b'\xEE' * (room - written):
+            self.say(where, 'a byte beyond the answers changed')
+
+    def case(self, index, case):
+        carried = b''
+        for j, operation in enumerate(case.operations):
+            where = 'case %d operation %d' % (index, j)
+            if operation[1] == 'lend':
+                carried = operation[0][22:22 + operation[0][21]]
+                continue
+            if operation[1] == 'feed':
+                self.feed(where, operation, carried)
+            elif self.take(1) != bytes([operation[2]]):
+                self.say(where, 'another number')
+            state = self.take(case.state_size())
+            carried = state[21:21 + state[20]]
+
+    def all(self):
+        for index, case in enumerate(cases):
+            self.case(index, case)
+        if self.at != len(self.output):
+            self.say('the end', '%d bytes expected, %d given' % (self.at, len(self.output)))
+        for kind, statuses in STATUSES.items():
+            for status in statuses:
+                if (kind, status) not in self.seen:
+                    self.say('kind %02X' % kind, 'status %d never given' % status)
+        return self.wrong == 0
+
+
+def main():
+    if len(sys.argv) == 1:
+        sys.stdout.buffer.write(bytes([VERSION]) + b''.join(case.bytes() for case in cases))
+        return 0
+    with open(sys.argv[1], 'rb') as output:
+        good = Check(output.read()).all()
+    print('%d cases: %s' % (len(cases), 'as expected' if good else 'not as expected'))
+    return 0 if good else 1
+
+
+sys.exit(main())

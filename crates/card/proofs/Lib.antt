@@ -1,0 +1,9 @@
+pub mod Runs
+pub mod Same
+pub mod Numbers
+pub mod Lines
+pub mod Reading
+pub mod Examples
+pub mod Comments
+pub mod Kept
+pub mod Laws

@@ -1,0 +1,15 @@
+-- `card::offset_allowed` meets its contract. Assumes nothing.
+use Rattle.card.specs.Sheet.{offsetAllowed}
+use borrow.Author.Needs.{needs}
+use Rattle.card.proofs.offset_allowed.Statement.{statement}
+use Rattle.card.proofs.offset_allowed.Tie as tie
+
+unless-requires : tie.Need-unless-requires
+unless-requires c κs = search needs
+
+returns : tie.Need-returns
+unfolding offsetAllowed
+returns c = cc
+
+pub offset-allowed-spec : {M : Type 1} → statement M
+offset-allowed-spec = tie.close (tie.spec unless-requires returns)

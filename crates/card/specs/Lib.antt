@@ -1,0 +1,4 @@
+pub mod Text
+pub mod Names
+pub mod Sheet
+pub mod Card

@@ -1,0 +1,757 @@
+// The reader of a card's text: which bytes are a card, and which card; the grammar is in specs/.
+ghost use mathlib.Core.Path.{_≡_};
+ghost use Prim.Native.Nat.{_+_, _<_, _≤_};
+ghost use mathlib.Core.Bool.{_&&_, cond};
+ghost use lib.Dec.{eqb, leb, ltb};
+ghost use lib.ListN.{length, drop, getD, set};
+ghost use Rattle.card.specs.Text.{inLine, isBlank, inField, runEnd, fieldStart, fieldEnd, field, noField, same, noNumber, baseOf, digitOf, widthAllowed, numberOf, linesOf};
+ghost use Rattle.card.specs.Sheet.{notNamed, wordPlace, entryPlace, slotAt, hexAt, codeAt, named, isFine, firstOf, unfit as unfitOf, wantsWord, numberAt, wantsNumber, wantsEnd, inRange, notTwice, slotAllowed, entered, put as putOf, whyNotNumber, enterNumber, offsetAllowed, wordAllowed, whyNotWord, enterWord, wantsCode, wantsYesNo, oneIf, isYes, whyNotCodes, whyNotFrs, whyNotSlot, putCode, putFrs, enterSlot, enterLine, told as toldOf, readLines};
+ghost use Rattle.card.specs.declared.Reason.the-variants.{Fine};
+ghost use Rattle.card.specs.Card.{namedBelow, codeFrom, slotFrom, slotsFrom, setupFrom, mustBeNamed, missing as missingOf, room as roomOf, storedWords, outcome, cardOf};
+use readiness::Setup;
+use readiness::Slot;
+use times::Code;
+
+// Why a text is refused; Fine where it isn't.
+pub enum Reason {
+    Fine,
+    // A word other than those that the grammar has there.
+    UnknownWord,
+    // No number, or one with too few or too many digits.
+    BadNumber,
+    // The line ends before the fact does.
+    LineTooShort,
+    // Something stands after the fact.
+    LineTooLong,
+    // A number that isn't allowed there.
+    OutOfRange,
+    // A slot or a word before `slots`.
+    SlotsFirst,
+    // A fact that an earlier line has.
+    NamedTwice,
+    // `slots`, `queue`, `bus` or `port` is missing at the end.
+    Missing,
+    // Other than 2,048 words are lent.
+    NoRoom,
+}
+
+// A reading: whether the text is a card; how many lines were read, the last of which is refused where one is; the reason; and
+// the card, as far as it was read.
+pub struct CardRead {
+    pub ok: bool,
+    pub line: usize,
+    pub reason: Reason,
+    pub setup: Setup,
+    pub queue: usize,
+}
+
+// How many lines were read, and why the last is refused.
+struct Told {
+    line: usize,
+    reason: Reason,
+}
+
+// What is no number, and what stands in the sheet where nothing was named.
+const NO_NUMBER: usize = 4294967296;
+
+const NOT_NAMED: usize = 4294967296;
+
+// Where the sheet has slots, queue, bus, port, and the slots' entries.
+const SLOTS: usize = 2048;
+
+const QUEUE: usize = 2049;
+
+const BUS: usize = 2050;
+
+const PORT: usize = 2051;
+
+// ---- Lines and fields
+
+fn in_line(b: u8) -> bool
+    ensures { λ r. ⌜ r ≡ inLine b ⌝ }
+{
+    b != 0x0A
+}
+
+fn is_blank(b: u8) -> bool
+    ensures { λ r. ⌜ r ≡ isBlank b ⌝ }
+{
+    (b == 0x20) | (b == 0x09) | (b == 0x0D)
+}
+
+fn in_field(b: u8) -> bool
+    ensures { λ r. ⌜ r ≡ inField b ⌝ }
+{
+    !(is_blank(b) | (b == 0x23))
+}
+
+// The end of the line that goes on at `at`.
+fn line_end(text: &[u8], at: usize) -> usize
+    ensures { λ r. ⌜ r ≡ runEnd inLine at (now (text .entry)) ⌝ }
+{
+    let mut i = at;
+    while i < text.len() {
+        if in_line(text[i]) {
+            i += 1;
+        } else {
+            return i;
+        }
+    }
+    i
+}
+
+// The end of the blanks that stand at `at`.
+fn blank_end(line: &[u8], at: usize) -> usize
+    ensures { λ r. ⌜ r ≡ runEnd isBlank at (now (line .entry)) ⌝ }
+{
+    let mut i = at;
+    while i < line.len() {
+        if is_blank(line[i]) {
+            i += 1;
+        } else {
+            return i;
+        }
+    }
+    i
+}
+
+// The end of the field that stands at `at`.
+fn field_end(line: &[u8], at: usize) -> usize
+    ensures { λ r. ⌜ r ≡ runEnd inField at (now (line .entry)) ⌝ }
+{
+    let mut i = at;
+    while i < line.len() {
+        if in_field(line[i]) {
+            i += 1;
+        } else {
+            return i;
+        }
+    }
+    i
+}
+
+// Where field k starts.
+fn field_start(line: &[u8], k: usize) -> usize
+    ensures { λ r. ⌜ r ≡ fieldStart k (now (line .entry)) ⌝ }
+{
+    let mut at = blank_end(line, 0);
+    let mut i: usize = 0;
+    while i < k {
+        at = blank_end(line, field_end(line, at));
+        i += 1;
+    }
+    at
+}
+
+// Whether the line has no field k.
+fn no_field(line: &[u8], k: usize) -> bool
+    ensures { λ r. ⌜ r ≡ noField k (now (line .entry)) ⌝ }
+{
+    let from = field_start(line, k);
+    from == field_end(line, from)
+}
+
+// Whether two slices have the same bytes.
+fn same_bytes(a: &[u8], b: &[u8]) -> bool
+    ensures { λ r. ⌜ r ≡ same (now (a .entry)) (now (b .entry)) ⌝ }
+{
+    let n = a.len();
+    if n != b.len() {
+        return false;
+    }
+    let mut i: usize = 0;
+    while i < n {
+        if a[i] == b[i] {
+            i += 1;
+        } else {
+            return false;
+        }
+    }
+    true
+}
+
+// Whether field k is this word.
+fn field_is(line: &[u8], k: usize, word: &[u8]) -> bool
+    ensures { λ r. ⌜ r ≡ same (field k (now (line .entry))) (now (word .entry)) ⌝ }
+{
+    let from = field_start(line, k);
+    let to = field_end(line, from);
+    same_bytes(&line[from..to], word)
+}
+
+// ---- Numbers
+
+fn base_of(hex: bool) -> usize
+    ensures { λ r. ⌜ r ≡ baseOf hex ⌝ }
+{
+    if hex { 16 } else { 10 }
+}
+
+fn between(low: usize, n: usize, high: usize) -> bool
+    ensures { λ r. ⌜ r ≡ (leb low n && leb n high) ⌝ }
+{
+    (low <= n) & (n <= high)
+}
+
+// The digit that a byte is; 16 where it is none.
+fn digit_of(hex: bool, b: u8) -> usize
+    ensures { λ r. ⌜ r ≡ digitOf hex b ⌝ }
+{
+    let n = b as usize;
+    if between(0x30, n, 0x39) {
+        return n - 0x30;
+    }
+    if hex & between(0x41, n, 0x46) {
+        return n - 0x37;
+    }
+    if hex & between(0x61, n, 0x66) {
+        return n - 0x57;
+    }
+    16
+}
+
+// Whether a number may have n digits.
+fn width_allowed(least: usize, most: usize, n: usize) -> bool
+    ensures { λ r. ⌜ r ≡ widthAllowed least most n ⌝ }
+{
+    (least <= n) & (n <= most) & (n <= 8)
+}
+
+// The number that these bytes are.
+fn number_of(s: &[u8], hex: bool, least: usize, most: usize) -> usize
+    ensures { λ r. ⌜ r ≡ numberOf hex least most (now (s .entry)) ⌝ }
+{
+    let n = s.len();
+    if !width_allowed(least, most, n) {
+        return NO_NUMBER;
+    }
+    let base = base_of(hex);
+    let mut value: usize = 0;
+    let mut i: usize = 0;
+    while i < n {
+        let digit = digit_of(hex, s[i]);
+        if digit < 16 {
+            value = value * base + digit;
+            i += 1;
+        } else {
+            return NO_NUMBER;
+        }
+    }
+    value
+}
+
+// The number that field k is.
+fn number_at(line: &[u8], k: usize, hex: bool, least: usize, most: usize) -> usize
+    ensures { λ r. ⌜ r ≡ numberAt hex least most k (now (line .entry)) ⌝ }
+{
+    let from = field_start(line, k);
+    let to = field_end(line, from);
+    number_of(&line[from..to], hex, least, most)
+}
+
+// ---- Reasons
+
+fn fine(why: Reason) -> bool
+    ensures { λ r. ⌜ r ≡ isFine why ⌝ }
+{
+    match why {
+        Reason::Fine => true,
+        Reason::UnknownWord => false,
+        Reason::BadNumber => false,
+        Reason::LineTooShort => false,
+        Reason::LineTooLong => false,
+        Reason::OutOfRange => false,
+        Reason::SlotsFirst => false,
+        Reason::NamedTwice => false,
+        Reason::Missing => false,
+        Reason::NoRoom => false,
+    }
+}
+
+// The first reason, or else the second.
+fn first(a: Reason, b: Reason) -> Reason
+    ensures { λ r. ⌜ r ≡ firstOf a b ⌝ }
+{
+    if fine(a) { b } else { a }
+}
+
+// Fine where the test holds.
+fn unless(holds: bool, why: Reason) -> Reason
+    ensures { λ r. ⌜ r ≡ cond holds Fine why ⌝ }
+{
+    if holds { Reason::Fine } else { why }
+}
+
+// A field that isn't what is wanted.
+fn unfit(why: Reason, line: &[u8], k: usize) -> Reason
+    ensures { λ r. ⌜ r ≡ unfitOf why k (now (line .entry)) ⌝ }
+{
+    if no_field(line, k) {
+        Reason::LineTooShort
+    } else {
+        why
+    }
+}
+
+// Field k must be this word.
+fn wants_word(word: &[u8], line: &[u8], k: usize) -> Reason
+    ensures { λ r. ⌜ r ≡ wantsWord (now (word .entry)) k (now (line .entry)) ⌝ }
+{
+    unless(field_is(line, k, word), unfit(Reason::UnknownWord, line, k))
+}
+
+// Field k must be a number with so many digits.
+fn wants_number(line: &[u8], k: usize, hex: bool, least: usize, most: usize) -> Reason
+    ensures { λ r. ⌜ r ≡ wantsNumber hex least most k (now (line .entry)) ⌝ }
+{
+    let is_number = number_at(line, k, hex, least, most) < NO_NUMBER;
+    unless(is_number, unfit(Reason::BadNumber, line, k))
+}
+
+// No field k may follow.
+fn wants_end(line: &[u8], k: usize) -> Reason
+    ensures { λ r. ⌜ r ≡ wantsEnd k (now (line .entry)) ⌝ }
+{
+    unless(no_field(line, k), Reason::LineTooLong)
+}
+
+fn in_range(low: usize, high: usize, n: usize) -> Reason
+    ensures { λ r. ⌜ r ≡ inRange low high n ⌝ }
+{
+    unless(between(low, n, high), Reason::OutOfRange)
+}
+
+// ---- The sheet
+
+// What stands at a place of the sheet.
+fn named_at(sheet: &[usize], place: usize) -> usize
+    ensures { λ r. ⌜ r ≡ named place (now (sheet .entry)) ⌝ }
+{
+    if place < sheet.len() { sheet[place] } else { 0 }
+}
+
+// Nothing is named twice.
+fn not_twice(sheet: &[usize], place: usize) -> Reason
+    ensures { λ r. ⌜ r ≡ notTwice place (now (sheet .entry)) ⌝ }
+{
+    let is_free = named_at(sheet, place) == NOT_NAMED;
+    unless(is_free, Reason::NamedTwice)
+}
+
+// The slots must be named before a slot is, and it must be one of them.
+fn slot_allowed(sheet: &[usize], n: usize) -> Reason
+    ensures { λ r. ⌜ r ≡ slotAllowed n (now (sheet .entry)) ⌝ }
+{
+    let slots = named_at(sheet, SLOTS);
+    if slots == NOT_NAMED {
+        return Reason::SlotsFirst;
+    }
+    unless(n < slots, Reason::OutOfRange)
+}
+
+// A number is named at its place, unless the line is refused.
+fn put(why: Reason, sheet: &mut [usize], place: usize, n: usize)
+    ensures { λ r. ⌜ now (sheet .exit) ≡ putOf why place n (now (sheet .entry)) ⌝ }
+{
+    if fine(why) {
+        if place < sheet.len() {
+            sheet[place] = n;
+        }
+    }
+}
+
+// ---- Facts
+
+// Why a line with a name and a number is refused.
+fn why_not_number(
+    line: &[u8],
+    sheet: &[usize],
+    place: usize,
+    hex: bool,
+    least: usize,
+    most: usize,
+    low: usize,
+    high: usize,
+) -> Reason
+    ensures { λ r. ⌜ r ≡ whyNotNumber place hex least most low high (now (line .entry)) (now (sheet .entry)) ⌝ }
+{
+    let range = in_range(low, high, number_at(line, 1, hex, least, most));
+    let twice = not_twice(sheet, place);
+    first(
+        wants_number(line, 1, hex, least, most),
+        first(wants_end(line, 2), first(range, twice)),
+    )
+}
+
+// A line with a name and a number.
+fn enter_number(
+    line: &[u8],
+    sheet: &mut [usize],
+    place: usize,
+    hex: bool,
+    least: usize,
+    most: usize,
+    low: usize,
+    high: usize,
+) -> Reason
+    ensures { λ r. ⌜ entered r (now (sheet .exit)) ≡ enterNumber place hex least most low high (now (line .entry)) (now (sheet .entry)) ⌝ }
+{
+    let why = why_not_number(line, &*sheet, place, hex, least, most, low, high);
+    let n = number_at(line, 1, hex, least, most);
+    put(why, &mut *sheet, place, n);
+    why
+}
+
+// A slot's number.
+fn slot_at(line: &[u8]) -> usize
+    ensures { λ r. ⌜ r ≡ slotAt (now (line .entry)) ⌝ }
+{
+    number_at(line, 1, false, 1, 8)
+}
+
+// A hex number of 1 to 8 digits.
+fn hex_at(line: &[u8], k: usize) -> usize
+    ensures { λ r. ⌜ r ≡ hexAt k (now (line .entry)) ⌝ }
+{
+    number_at(line, k, true, 1, 8)
+}
+
+// A code of three hex digits.
+fn code_at(line: &[u8], k: usize) -> usize
+    ensures { λ r. ⌜ r ≡ codeAt k (now (line .entry)) ⌝ }
+{
+    number_at(line, k, true, 3, 3)
+}
+
+// A byte offset of a register is a multiple of 4 below 100h.
+fn offset_allowed(offset: usize) -> Reason
+    ensures { λ r. ⌜ r ≡ offsetAllowed offset ⌝ }
+{
+    unless((offset < 0x100) & (offset % 4 == 0), Reason::OutOfRange)
+}
+
+// The place of the word that the line names.
+fn word_place(line: &[u8]) -> usize
+    ensures { λ r. ⌜ r ≡ wordPlace (slotAt (now (line .entry))) (hexAt 2 (now (line .entry))) ⌝ }
+{
+    let n = slot_at(line);
+    let offset = hex_at(line, 2);
+    n * 64 + offset / 4
+}
+
+// Why the word that a line names is refused.
+fn word_allowed(line: &[u8], sheet: &[usize]) -> Reason
+    ensures { λ r. ⌜ r ≡ wordAllowed (now (line .entry)) (now (sheet .entry)) ⌝ }
+{
+    let twice = not_twice(sheet, word_place(line));
+    let offset = offset_allowed(hex_at(line, 2));
+    let slot = slot_allowed(sheet, slot_at(line));
+    first(slot, first(offset, twice))
+}
+
+// Why `word N OFFSET VALUE` is refused.
+fn why_not_word(line: &[u8], sheet: &[usize]) -> Reason
+    ensures { λ r. ⌜ r ≡ whyNotWord (now (line .entry)) (now (sheet .entry)) ⌝ }
+{
+    let slot = wants_number(line, 1, false, 1, 8);
+    let offset = wants_number(line, 2, true, 1, 8);
+    let value = wants_number(line, 3, true, 1, 8);
+    let end = wants_end(line, 4);
+    let word = word_allowed(line, sheet);
+    first(slot, first(offset, first(value, first(end, word))))
+}
+
+// word N OFFSET VALUE
+fn enter_word(line: &[u8], sheet: &mut [usize]) -> Reason
+    ensures { λ r. ⌜ entered r (now (sheet .exit)) ≡ enterWord (now (line .entry)) (now (sheet .entry)) ⌝ }
+{
+    let why = why_not_word(line, &*sheet);
+    let place = word_place(line);
+    let value = hex_at(line, 3);
+    put(why, &mut *sheet, place, value);
+    why
+}
+
+fn is_yes(line: &[u8], k: usize) -> bool
+    ensures { λ r. ⌜ r ≡ isYes k (now (line .entry)) ⌝ }
+{
+    field_is(line, k, b"yes")
+}
+
+// yes or no
+fn wants_yes_no(line: &[u8], k: usize) -> Reason
+    ensures { λ r. ⌜ r ≡ wantsYesNo k (now (line .entry)) ⌝ }
+{
+    unless(is_yes(line, k), wants_word(b"no", line, k))
+}
+
+fn one_if(yes: bool) -> usize
+    ensures { λ r. ⌜ r ≡ oneIf yes ⌝ }
+{
+    if yes { 1 } else { 0 }
+}
+
+// A word, and a code after it.
+fn wants_code(name: &[u8], line: &[u8], k: usize, next: usize) -> Reason
+    ensures { λ r. ⌜ r ≡ wantsCode (now (name .entry)) k next (now (line .entry)) ⌝ }
+{
+    first(
+        wants_word(name, line, k),
+        wants_number(line, next, true, 3, 3),
+    )
+}
+
+// reset HHH dlup HHH flr HHH d3hot HHH
+fn why_not_codes(line: &[u8]) -> Reason
+    ensures { λ r. ⌜ r ≡ whyNotCodes (now (line .entry)) ⌝ }
+{
+    let reset = wants_code(b"reset", line, 2, 3);
+    let dl_up = wants_code(b"dlup", line, 4, 5);
+    let flr = wants_code(b"flr", line, 6, 7);
+    let d3hot = wants_code(b"d3hot", line, 8, 9);
+    first(reset, first(dl_up, first(flr, d3hot)))
+}
+
+// frs yes|no
+fn why_not_frs(line: &[u8]) -> Reason
+    ensures { λ r. ⌜ r ≡ whyNotFrs (now (line .entry)) ⌝ }
+{
+    first(
+        wants_word(b"frs", line, 10),
+        first(wants_yes_no(line, 11), wants_end(line, 12)),
+    )
+}
+
+// The place of the j-th of the five that a slot's line names.
+fn entry_place(line: &[u8], j: u8) -> usize
+    ensures { λ r. ⌜ r ≡ entryPlace (slotAt (now (line .entry))) j ⌝ }
+{
+    let n = slot_at(line);
+    2052 + n * 5 + j as usize
+}
+
+// Why a slot's line is refused.
+fn why_not_slot(line: &[u8], sheet: &[usize]) -> Reason
+    ensures { λ r. ⌜ r ≡ whyNotSlot (now (line .entry)) (now (sheet .entry)) ⌝ }
+{
+    let twice = not_twice(sheet, entry_place(line, 0));
+    let slot = slot_allowed(sheet, slot_at(line));
+    let rest = first(why_not_frs(line), first(slot, twice));
+    first(
+        wants_number(line, 1, false, 1, 8),
+        first(why_not_codes(line), rest),
+    )
+}
+
+// The code in field k is named as the slot's time j.
+fn put_code(why: Reason, line: &[u8], sheet: &mut [usize], j: u8, k: usize)
+    ensures { λ r. ⌜ now (sheet .exit) ≡ putCode why j k (now (line .entry)) (now (sheet .entry)) ⌝ }
+{
+    let place = entry_place(line, j);
+    let code = code_at(line, k);
+    put(why, &mut *sheet, place, code);
+}
+
+// Whether the slot sends FRS is named.
+fn put_frs(why: Reason, line: &[u8], sheet: &mut [usize])
+    ensures { λ r. ⌜ now (sheet .exit) ≡ putFrs why (now (line .entry)) (now (sheet .entry)) ⌝ }
+{
+    let place = entry_place(line, 4);
+    let frs = one_if(is_yes(line, 11));
+    put(why, &mut *sheet, place, frs);
+}
+
+// slot N reset HHH dlup HHH flr HHH d3hot HHH frs yes|no
+fn enter_slot(line: &[u8], sheet: &mut [usize]) -> Reason
+    ensures { λ r. ⌜ entered r (now (sheet .exit)) ≡ enterSlot (now (line .entry)) (now (sheet .entry)) ⌝ }
+{
+    let why = why_not_slot(line, &*sheet);
+    put_code(why, line, &mut *sheet, 0, 3);
+    put_code(why, line, &mut *sheet, 1, 5);
+    put_code(why, line, &mut *sheet, 2, 7);
+    put_code(why, line, &mut *sheet, 3, 9);
+    put_frs(why, line, &mut *sheet);
+    why
+}
+
+// ---- Lines
+
+// One line: nothing but blanks and a comment, or a fact.
+fn enter_line(line: &[u8], sheet: &mut [usize]) -> Reason
+    ensures { λ r. ⌜ entered r (now (sheet .exit)) ≡ enterLine (now (line .entry)) (now (sheet .entry)) ⌝ }
+{
+    if no_field(line, 0) {
+        return Reason::Fine;
+    }
+    if field_is(line, 0, b"slots") {
+        return enter_number(line, &mut *sheet, SLOTS, false, 1, 8, 1, 32);
+    }
+    if field_is(line, 0, b"queue") {
+        return enter_number(line, &mut *sheet, QUEUE, false, 1, 8, 1, 4095);
+    }
+    if field_is(line, 0, b"bus") {
+        return enter_number(line, &mut *sheet, BUS, true, 2, 2, 0, 0xFF);
+    }
+    if field_is(line, 0, b"port") {
+        return enter_number(line, &mut *sheet, PORT, true, 4, 4, 0, 0xFFFF);
+    }
+    if field_is(line, 0, b"slot") {
+        return enter_slot(line, &mut *sheet);
+    }
+    if field_is(line, 0, b"word") {
+        return enter_word(line, &mut *sheet);
+    }
+    Reason::UnknownWord
+}
+
+// The place after a line's end.
+fn next_line(end: usize, length: usize) -> usize
+    ensures { λ r. ⌜ r ≡ cond (ltb end length) (end + 1) length ⌝ }
+{
+    if end < length { end + 1 } else { length }
+}
+
+// The lines in turn, up to the first that is refused.
+fn read_lines(text: &[u8], sheet: &mut [usize]) -> Told
+    ensures { λ r. ⌜ toldOf (r .line) (r .reason) (now (sheet .exit)) ≡ readLines 0 (linesOf (now (text .entry))) (now (sheet .entry)) ⌝ }
+{
+    let mut at: usize = 0;
+    let mut count: usize = 0;
+    while at < text.len() {
+        let end = line_end(text, at);
+        count += 1;
+        let why = enter_line(&text[at..end], &mut *sheet);
+        if fine(why) {
+            at = next_line(end, text.len());
+        } else {
+            return Told {
+                line: count,
+                reason: why,
+            };
+        }
+    }
+    Told {
+        line: count,
+        reason: Reason::Fine,
+    }
+}
+
+// ---- The card
+
+// What was named at a place, as a code; 000 where nothing was.
+fn code_from(sheet: &[usize], place: usize) -> Code
+    ensures { λ r. ⌜ r ≡ codeFrom place (now (sheet .entry)) ⌝ }
+{
+    let n = named_at(sheet, place) % 0x1000;
+    times::code_of(n as u16)
+}
+
+// The entry of slot n.
+fn slot_from(sheet: &[usize], n: u8) -> Slot
+    ensures { λ r. ⌜ r ≡ slotFrom (now (sheet .entry)) n ⌝ }
+{
+    let at = 2052 + n as usize * 5;
+    Slot {
+        reset: code_from(sheet, at),
+        dl_up: code_from(sheet, at + 1),
+        flr: code_from(sheet, at + 2),
+        d3hot: code_from(sheet, at + 3),
+        sends_frs: named_at(sheet, at + 4) == 1,
+    }
+}
+
+// The entries of 32 slots.
+fn slots_from(sheet: &[usize]) -> [Slot; 32]
+    ensures { λ r. ⌜ r ≡ slotsFrom (now (sheet .entry)) 32 ⌝ }
+{
+    let mut entries = [slot_from(sheet, 0); 32];
+    let mut n: u8 = 0;
+    while n < 32 {
+        let entry = slot_from(sheet, n);
+        entries[n as usize] = entry;
+        n += 1;
+    }
+    entries
+}
+
+// The set-up that a sheet names.
+fn setup_from(sheet: &[usize]) -> Setup
+    ensures { λ r. ⌜ r ≡ setupFrom (now (sheet .entry)) ⌝ }
+{
+    let bus = named_at(sheet, BUS) % 0x100;
+    let port = named_at(sheet, PORT) % 0x10000;
+    Setup {
+        slots: named_at(sheet, SLOTS) % 64,
+        entries: slots_from(sheet),
+        bus: bus as u8,
+        port_id: port as u16,
+    }
+}
+
+fn must_be_named(sheet: &[usize], place: usize) -> Reason
+    ensures { λ r. ⌜ r ≡ mustBeNamed place (now (sheet .entry)) ⌝ }
+{
+    if named_at(sheet, place) == NOT_NAMED {
+        Reason::Missing
+    } else {
+        Reason::Fine
+    }
+}
+
+// The slots, queue, bus and port must be named.
+fn missing(sheet: &[usize]) -> Reason
+    ensures { λ r. ⌜ r ≡ missingOf (now (sheet .entry)) ⌝ }
+{
+    let slots = must_be_named(sheet, SLOTS);
+    let queue = must_be_named(sheet, QUEUE);
+    let bus = must_be_named(sheet, BUS);
+    let port = must_be_named(sheet, PORT);
+    first(slots, first(queue, first(bus, port)))
+}
+
+// The words lent must be 2,048.
+fn room(words: usize) -> Reason
+    ensures { λ r. ⌜ r ≡ roomOf words ⌝ }
+{
+    unless(words == 2048, Reason::NoRoom)
+}
+
+// What was named at a place, as a word; 0 where nothing was.
+fn word_from(sheet: &[usize], place: usize) -> u32
+    ensures { λ r. ⌜ r ≡ namedBelow 4294967296 place (now (sheet .entry)) ⌝ }
+{
+    let n = named_at(sheet, place) % 4294967296;
+    n as u32
+}
+
+// The default words, unless the text is refused.
+fn store_words(why: Reason, sheet: &[usize], words: &mut [u32])
+    ensures { λ r. ⌜ now (words .exit) ≡ storedWords why (now (sheet .entry)) (now (words .entry)) ⌝ }
+{
+    if fine(why) {
+        let n = words.len();
+        let mut i: usize = 0;
+        while i < n {
+            words[i] = word_from(sheet, i);
+            i += 1;
+        }
+    }
+}
+
+// Reads a card's text. The words lent, 2,048 of them, take the default words where the text is a card; else they stay.
+pub fn read_card(text: &[u8], words: &mut [u32]) -> CardRead
+    ensures { λ r. ⌜ outcome r (now (words .exit)) ≡ cardOf (now (text .entry)) (now (words .entry)) ⌝ }
+{
+    let mut sheet: [usize; 2212] = [NOT_NAMED; 2212];
+    let told = read_lines(text, &mut sheet);
+    let refused = told.reason;
+    let why = first(refused, first(missing(&sheet), room(words.len())));
+    store_words(why, &sheet, &mut *words);
+    CardRead {
+        ok: fine(why),
+        line: told.line,
+        reason: why,
+        setup: setup_from(&sheet),
+        queue: named_at(&sheet, QUEUE) % 4096,
+    }
+}

@@ -24,9 +24,9 @@ use Rattle.feed.specs.Feeding.{bench, left, feeds}
 use Rattle.feed.proofs.Lent.{length-lent, lent-take}
 use Rattle.feed.proofs.Refusals.{fits-of}
 use Rattle.bench.specs.declared.Outcome.{Outcome}
-use Rattle.bench.specs.Statuses.{storedOver}
+use Rattle.statuses.specs.Statuses.{storedOver}
 use Rattle.bench.specs.Entries.{leftBySetUp, leftByFeed}
-use Rattle.bench.proofs.Copies.{by-le}
+use Rattle.statuses.proofs.Copies.{by-le}
 
 -- the statuses as the core has them
 abbrev pub given : List Status → List Status

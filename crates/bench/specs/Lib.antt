@@ -1,4 +1,2 @@
-pub mod Statuses
 pub mod Entries
-pub mod First
 pub mod Chain

@@ -64,7 +64,7 @@ use Rattle.feed.proofs.feed as core
 use Rattle.feed.proofs.feed.Symbol as core-def
 use Rattle.feed.proofs.feed.Symbol.{name as #feed·feed}
 use Rattle.feed.proofs.feed.Met as core-thm
-use Rattle.bench.specs.Statuses.{storedOver}
+use Rattle.statuses.specs.Statuses.{storedOver}
 use Rattle.bench.specs.Entries.{leftByFeed}
 use Rattle.bench.proofs.Padding.{fed-as-lent}
 use Rattle.bench.specs.declared.Outcome.{Outcome}
@@ -74,14 +74,14 @@ use Rattle.bench.proofs.outcome_of as outcome
 use Rattle.bench.proofs.outcome_of.Symbol as outcome-def
 use Rattle.bench.proofs.outcome_of.Symbol.{name as #bench·outcome-of}
 use Rattle.bench.proofs.outcome_of.Met as outcome-thm
-use Rattle.bench.proofs.load as load
-use Rattle.bench.proofs.load.Symbol as load-def
-use Rattle.bench.proofs.load.Symbol.{name as #bench·load}
-use Rattle.bench.proofs.load.Met as load-thm
-use Rattle.bench.proofs.store as store′
-use Rattle.bench.proofs.store.Symbol as store-def
-use Rattle.bench.proofs.store.Symbol.{name as #bench·store}
-use Rattle.bench.proofs.store.Met as store-thm
+use Rattle.statuses.proofs.load as load
+use Rattle.statuses.proofs.load.Symbol as load-def
+use Rattle.statuses.proofs.load.Symbol.{name as #statuses·load}
+use Rattle.statuses.proofs.load.Met as load-thm
+use Rattle.statuses.proofs.store as store′
+use Rattle.statuses.proofs.store.Symbol as store-def
+use Rattle.statuses.proofs.store.Symbol.{name as #statuses·store}
+use Rattle.statuses.proofs.store.Met as store-thm
 use Rattle.bench.proofs.feed.Key.{name as #bench·feed}
 use Rattle.bench.proofs.feed as f
 use Rattle.bench.proofs.feed.Statement as stated
@@ -151,9 +151,9 @@ module _ {M : Type 1} (𝓤 : URA M) (H : Heap 𝓤) (A : Atoms 𝓤) (at-mem : 
   OutcomeC = tripleOf 𝓤 H A outcome.signature (outcome.spec 𝓤 H A at-mem run)
 
   record Known (C : Calls 𝓤 H) : Type 1 where
-    load : Triple 𝓤 (C #bench·load) Load
+    load : Triple 𝓤 (C #statuses·load) Load
     core : Triple 𝓤 (C #feed·feed) Core
-    store : Triple 𝓤 (C #bench·store) Store
+    store : Triple 𝓤 (C #statuses·store) Store
     outcome : Triple 𝓤 (C #bench·outcome-of) OutcomeC
 
 module _ {M : Type 1} (𝓤 : URA M) (H : Heap 𝓤) (A : Atoms 𝓤) (W : Given 𝓤 H A) (at-mem : Memory → SProp 𝓤) (run : Routine → Fun 𝓤)
@@ -512,8 +512,8 @@ feed-spec 𝓤 H 𝓜 𝓖 𝓡 =
     entered 𝓤 H (tripleOf 𝓤 H (𝓖 .A) f.signature (f.spec 𝓤 H (𝓖 .A) (𝓜 .mem) (𝓡 .run)))
     (tables 𝓤 H 𝓜 𝓡 code.env .C) (tables 𝓤 H 𝓜 𝓡 code.env .Λ) #bench·feed code.function (code.unfolded 𝓤 H 𝓜 𝓡)
     (feed-meets 𝓤 H (𝓖 .A) (givenOf 𝓤 H 𝓜 𝓖) (𝓜 .mem) (𝓡 .run) (tablesOf 𝓤 H 𝓜 (tables 𝓤 H 𝓜 𝓡 code.env)) (record {
-      load = cited 𝓤 H (Load 𝓤 H (𝓖 .A) (𝓜 .mem) (𝓡 .run)) 𝓜 𝓡 code.env #bench·load load-def.routine code.calls-bench·load (load-thm.met 𝓤 H 𝓜 𝓖 𝓡);
+      load = cited 𝓤 H (Load 𝓤 H (𝓖 .A) (𝓜 .mem) (𝓡 .run)) 𝓜 𝓡 code.env #statuses·load load-def.routine code.calls-statuses·load (load-thm.met 𝓤 H 𝓜 𝓖 𝓡);
       core = cited 𝓤 H (Core 𝓤 H (𝓖 .A) (𝓜 .mem) (𝓡 .run)) 𝓜 𝓡 code.env #feed·feed core-def.routine code.calls-feed·feed (core-thm.met 𝓤 H 𝓜 𝓖 𝓡);
-      store = cited 𝓤 H (Store 𝓤 H (𝓖 .A) (𝓜 .mem) (𝓡 .run)) 𝓜 𝓡 code.env #bench·store store-def.routine code.calls-bench·store (store-thm.met 𝓤 H 𝓜 𝓖 𝓡);
+      store = cited 𝓤 H (Store 𝓤 H (𝓖 .A) (𝓜 .mem) (𝓡 .run)) 𝓜 𝓡 code.env #statuses·store store-def.routine code.calls-statuses·store (store-thm.met 𝓤 H 𝓜 𝓖 𝓡);
       outcome = cited 𝓤 H (OutcomeC 𝓤 H (𝓖 .A) (𝓜 .mem) (𝓡 .run)) 𝓜 𝓡 code.env #bench·outcome-of outcome-def.routine code.calls-bench·outcome-of (outcome-thm.met 𝓤 H 𝓜 𝓖 𝓡);
     }))

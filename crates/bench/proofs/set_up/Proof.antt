@@ -64,17 +64,17 @@ use Rattle.feed.proofs.set_up as core
 use Rattle.feed.proofs.set_up.Symbol as core-def
 use Rattle.feed.proofs.set_up.Symbol.{name as #feed·set-up}
 use Rattle.feed.proofs.set_up.Met as core-thm
-use Rattle.bench.specs.Statuses.{storedOver}
+use Rattle.statuses.specs.Statuses.{storedOver}
 use Rattle.bench.specs.Entries.{leftBySetUp}
 use Rattle.bench.proofs.Padding.{set-up-as-lent}
-use Rattle.bench.proofs.load as load
-use Rattle.bench.proofs.load.Symbol as load-def
-use Rattle.bench.proofs.load.Symbol.{name as #bench·load}
-use Rattle.bench.proofs.load.Met as load-thm
-use Rattle.bench.proofs.store as store′
-use Rattle.bench.proofs.store.Symbol as store-def
-use Rattle.bench.proofs.store.Symbol.{name as #bench·store}
-use Rattle.bench.proofs.store.Met as store-thm
+use Rattle.statuses.proofs.load as load
+use Rattle.statuses.proofs.load.Symbol as load-def
+use Rattle.statuses.proofs.load.Symbol.{name as #statuses·load}
+use Rattle.statuses.proofs.load.Met as load-thm
+use Rattle.statuses.proofs.store as store′
+use Rattle.statuses.proofs.store.Symbol as store-def
+use Rattle.statuses.proofs.store.Symbol.{name as #statuses·store}
+use Rattle.statuses.proofs.store.Met as store-thm
 use Rattle.bench.proofs.set_up.Key.{name as #bench·set-up}
 use Rattle.bench.proofs.set_up as f
 use Rattle.bench.proofs.set_up.Statement as stated
@@ -129,9 +129,9 @@ module _ {M : Type 1} (𝓤 : URA M) (H : Heap 𝓤) (A : Atoms 𝓤) (at-mem : 
   Store = tripleOf 𝓤 H A store′.signature (store′.spec 𝓤 H A at-mem run)
 
   record Known (C : Calls 𝓤 H) : Type 1 where
-    load : Triple 𝓤 (C #bench·load) Load
+    load : Triple 𝓤 (C #statuses·load) Load
     core : Triple 𝓤 (C #feed·set-up) Core
-    store : Triple 𝓤 (C #bench·store) Store
+    store : Triple 𝓤 (C #statuses·store) Store
 
 module _ {M : Type 1} (𝓤 : URA M) (H : Heap 𝓤) (A : Atoms 𝓤) (W : Given 𝓤 H A) (at-mem : Memory → SProp 𝓤) (run : Routine → Fun 𝓤)
     (κ₀ κ₁ κ₂ κ₃ κ₄ : Lft) (q₀ q₁ q₂ q₃ q₄ : Share) (bounds : AllOutlive 5 (f.signature .outlives) (κ₀, (κ₁, (κ₂, (κ₃, (κ₄, tt)))))) (st : Setup) (b o : ℕ) (γ : GName) (h : Port) (b₁ o₁ : ℕ) (γ₁ : GName) (ys : List Status) (y : RefT (List ℕ)) (x : RefT (List ℕ)) (z : RefT (List ℕ)) where
@@ -447,7 +447,7 @@ set-up-spec 𝓤 H 𝓜 𝓖 𝓡 =
     entered 𝓤 H (tripleOf 𝓤 H (𝓖 .A) f.signature (f.spec 𝓤 H (𝓖 .A) (𝓜 .mem) (𝓡 .run)))
     (tables 𝓤 H 𝓜 𝓡 code.env .C) (tables 𝓤 H 𝓜 𝓡 code.env .Λ) #bench·set-up code.function (code.unfolded 𝓤 H 𝓜 𝓡)
     (set-up-meets 𝓤 H (𝓖 .A) (givenOf 𝓤 H 𝓜 𝓖) (𝓜 .mem) (𝓡 .run) (tablesOf 𝓤 H 𝓜 (tables 𝓤 H 𝓜 𝓡 code.env)) (record {
-      load = cited 𝓤 H (Load 𝓤 H (𝓖 .A) (𝓜 .mem) (𝓡 .run)) 𝓜 𝓡 code.env #bench·load load-def.routine code.calls-bench·load (load-thm.met 𝓤 H 𝓜 𝓖 𝓡);
+      load = cited 𝓤 H (Load 𝓤 H (𝓖 .A) (𝓜 .mem) (𝓡 .run)) 𝓜 𝓡 code.env #statuses·load load-def.routine code.calls-statuses·load (load-thm.met 𝓤 H 𝓜 𝓖 𝓡);
       core = cited 𝓤 H (Core 𝓤 H (𝓖 .A) (𝓜 .mem) (𝓡 .run)) 𝓜 𝓡 code.env #feed·set-up core-def.routine code.calls-feed·set-up (core-thm.met 𝓤 H 𝓜 𝓖 𝓡);
-      store = cited 𝓤 H (Store 𝓤 H (𝓖 .A) (𝓜 .mem) (𝓡 .run)) 𝓜 𝓡 code.env #bench·store store-def.routine code.calls-bench·store (store-thm.met 𝓤 H 𝓜 𝓖 𝓡);
+      store = cited 𝓤 H (Store 𝓤 H (𝓖 .A) (𝓜 .mem) (𝓡 .run)) 𝓜 𝓡 code.env #statuses·store store-def.routine code.calls-statuses·store (store-thm.met 𝓤 H 𝓜 𝓖 𝓡);
     }))

@@ -1,4 +1,4 @@
--- `bench::set_up_first` meets its contract: a walk of its MIR, by hand. The port, a local, and the first k of the statuses, a local array, are lent to `set_up`, each for a lifetime of its own, and come back; `set_up_with`, which is covered, makes the result of them.
+-- `by_value::set_up_first` meets its contract: a walk of its MIR, by hand. The port, a local, and the first k of the statuses, a local array, are lent to `set_up`, each for a lifetime of its own, and come back; `set_up_with`, which is covered, makes the result of them.
 -- All that the proof knows of the callees is that each meets its contract.
 -- Assumes nothing.
 use mathlib.Core.Path.{_≡_, refl, ap, sym, _∙_}
@@ -60,25 +60,25 @@ use Rattle.feed.proofs.Port as P
 use Rattle.feed.proofs.Port.Laws as P′
 use Rattle.feed.proofs.SetUp as R
 use Rattle.feed.proofs.SetUp.Laws as R′
 use Rattle.bench.specs.Entries.{leftBySetUp}
-use Rattle.bench.specs.First.{setsUpFirst}
-use Rattle.bench.proofs.Fronts.{set-up-first}
-use Rattle.bench.proofs.at_most_32 as at-most-32
-use Rattle.bench.proofs.at_most_32.Symbol as at-most-32-def
-use Rattle.bench.proofs.at_most_32.Symbol.{name as #bench·at-most-32}
-use Rattle.bench.proofs.at_most_32.Met as at-most-32-thm
+use Rattle.by_value.specs.First.{setsUpFirst}
+use Rattle.by_value.proofs.Fronts.{set-up-first}
+use Rattle.statuses.proofs.at_most_32 as at-most-32
+use Rattle.statuses.proofs.at_most_32.Symbol as at-most-32-def
+use Rattle.statuses.proofs.at_most_32.Symbol.{name as #statuses·at-most-32}
+use Rattle.statuses.proofs.at_most_32.Met as at-most-32-thm
 use Rattle.bench.proofs.set_up as entry
 use Rattle.bench.proofs.set_up.Symbol as entry-def
 use Rattle.bench.proofs.set_up.Symbol.{name as #bench·set-up}
 use Rattle.bench.proofs.set_up.Met as entry-thm
-use Rattle.bench.proofs.set_up_with as made
-use Rattle.bench.proofs.set_up_with.Symbol as made-def
-use Rattle.bench.proofs.set_up_with.Symbol.{name as #bench·set-up-with}
-use Rattle.bench.proofs.set_up_with.Met as made-thm
-use Rattle.bench.proofs.set_up_first.Key.{name as #bench·set-up-first}
-use Rattle.bench.proofs.set_up_first as f
-use Rattle.bench.proofs.set_up_first.Statement as stated
-use Rattle.bench.proofs.set_up_first.Code as code
+use Rattle.by_value.proofs.set_up_with as made
+use Rattle.by_value.proofs.set_up_with.Symbol as made-def
+use Rattle.by_value.proofs.set_up_with.Symbol.{name as #by-value·set-up-with}
+use Rattle.by_value.proofs.set_up_with.Met as made-thm
+use Rattle.by_value.proofs.set_up_first.Key.{name as #by-value·set-up-first}
+use Rattle.by_value.proofs.set_up_first as f
+use Rattle.by_value.proofs.set_up_first.Statement as stated
+use Rattle.by_value.proofs.set_up_first.Code as code
 
 abbrev AR : RattleType
 AR = Array T.the-row 32
@@ -125,9 +125,9 @@ module _ {M : Type 1} (𝓤 : URA M) (H : Heap 𝓤) (A : Atoms 𝓤) (at-mem : 
   Made = tripleOf 𝓤 H A made.signature (made.spec 𝓤 H A at-mem run)
 
   record Known (C : Calls 𝓤 H) : Type 1 where
-    at-most-32 : Triple 𝓤 (C #bench·at-most-32) AtMost
+    at-most-32 : Triple 𝓤 (C #statuses·at-most-32) AtMost
     entry : Triple 𝓤 (C #bench·set-up) Entry
-    made : Triple 𝓤 (C #bench·set-up-with) Made
+    made : Triple 𝓤 (C #by-value·set-up-with) Made
 
 module _ {M : Type 1} (𝓤 : URA M) (H : Heap 𝓤) (A : Atoms 𝓤) (W : Given 𝓤 H A) (at-mem : Memory → SProp 𝓤) (run : Routine → Fun 𝓤)
     (κ₀ κ₁ κ₂ : Lft) (q₀ q₁ q₂ : Share) (bounds : AllOutlive 3 (f.signature .outlives) (κ₀, (κ₁, (κ₂, tt)))) (st : Setup) (h : Port) (xs : List Status) (n : ℕ) (y : RefT (List ℕ)) (x : RefT (List ℕ)) (z : RefT (List ℕ)) where
@@ -407,9 +407,9 @@ pub set-up-first-spec : {M : Type 1} → stated.statement M
 unfolding code.routine tablesOf
 set-up-first-spec 𝓤 H 𝓜 𝓖 𝓡 =
     entered 𝓤 H (tripleOf 𝓤 H (𝓖 .A) f.signature (f.spec 𝓤 H (𝓖 .A) (𝓜 .mem) (𝓡 .run)))
-    (tables 𝓤 H 𝓜 𝓡 code.env .C) (tables 𝓤 H 𝓜 𝓡 code.env .Λ) #bench·set-up-first code.function (code.unfolded 𝓤 H 𝓜 𝓡)
+    (tables 𝓤 H 𝓜 𝓡 code.env .C) (tables 𝓤 H 𝓜 𝓡 code.env .Λ) #by-value·set-up-first code.function (code.unfolded 𝓤 H 𝓜 𝓡)
     (set-up-first-meets 𝓤 H (𝓖 .A) (givenOf 𝓤 H 𝓜 𝓖) (𝓜 .mem) (𝓡 .run) (tablesOf 𝓤 H 𝓜 (tables 𝓤 H 𝓜 𝓡 code.env)) (record {
-      at-most-32 = cited 𝓤 H (AtMost 𝓤 H (𝓖 .A) (𝓜 .mem) (𝓡 .run)) 𝓜 𝓡 code.env #bench·at-most-32 at-most-32-def.routine code.calls-bench·at-most-32 (at-most-32-thm.met 𝓤 H 𝓜 𝓖 𝓡);
+      at-most-32 = cited 𝓤 H (AtMost 𝓤 H (𝓖 .A) (𝓜 .mem) (𝓡 .run)) 𝓜 𝓡 code.env #statuses·at-most-32 at-most-32-def.routine code.calls-statuses·at-most-32 (at-most-32-thm.met 𝓤 H 𝓜 𝓖 𝓡);
       entry = cited 𝓤 H (Entry 𝓤 H (𝓖 .A) (𝓜 .mem) (𝓡 .run)) 𝓜 𝓡 code.env #bench·set-up entry-def.routine code.calls-bench·set-up (entry-thm.met 𝓤 H 𝓜 𝓖 𝓡);
-      made = cited 𝓤 H (Made 𝓤 H (𝓖 .A) (𝓜 .mem) (𝓡 .run)) 𝓜 𝓡 code.env #bench·set-up-with made-def.routine code.calls-bench·set-up-with (made-thm.met 𝓤 H 𝓜 𝓖 𝓡);
+      made = cited 𝓤 H (Made 𝓤 H (𝓖 .A) (𝓜 .mem) (𝓡 .run)) 𝓜 𝓡 code.env #by-value·set-up-with made-def.routine code.calls-by-value·set-up-with (made-thm.met 𝓤 H 𝓜 𝓖 𝓡);
     }))

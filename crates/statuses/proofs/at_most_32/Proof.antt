@@ -1,8 +1,8 @@
 use native.Mathlib.Omega.{arith}
-use Rattle.bench.proofs.at_most_32.Statement.{statement}
-use Rattle.bench.proofs.at_most_32.Tie as tie
-use Rattle.bench.proofs.at_most_32.Reads as reads
-use Rattle.bench.proofs.at_most_32.Lts as lts
+use Rattle.statuses.proofs.at_most_32.Statement.{statement}
+use Rattle.statuses.proofs.at_most_32.Tie as tie
+use Rattle.statuses.proofs.at_most_32.Reads as reads
+use Rattle.statuses.proofs.at_most_32.Lts as lts
 
 -- src/lib.rt:61:1
 returns : tie.Need-returns

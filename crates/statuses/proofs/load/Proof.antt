@@ -1,4 +1,4 @@
--- `bench::load` meets its contract: a walk of its MIR, by hand, with a loop. Of its callees it knows that each meets its contract. A turn reads one element by `status_at`, to which a copy of the slice and the token are lent, and puts it into the array by `put`.
+-- `statuses::load` meets its contract: a walk of its MIR, by hand, with a loop. Of its callees it knows that each meets its contract. A turn reads one element by `status_at`, to which a copy of the slice and the token are lent, and puts it into the array by `put`.
 -- What a turn starts from is a value of `At`, which holds the loop's numbers and every fact about them: so the loop's invariant is a list of items over it, with no ∃.
 -- Assumes nothing.
 use mathlib.Core.Path.{_≡_, refl, sym, _∙_, ap, subst}
@@ -53,32 +53,32 @@ use Rattle.readiness.proofs.Status as T
 use Rattle.readiness.proofs.Status.Laws as T′
 use Rattle.feed.specs.Held.{lentOf}
 use Rattle.walks.proofs.Walks.{before, before-plain, after}
-use Rattle.bench.proofs.Copies.{padTo, pad-more, pad-all}
-use Rattle.bench.proofs.at_most_32 as at-most-32
-use Rattle.bench.proofs.at_most_32.Symbol as at-most-32-def
-use Rattle.bench.proofs.at_most_32.Symbol.{name as #bench·at-most-32}
-use Rattle.bench.proofs.at_most_32.Met as at-most-32-thm
-use Rattle.bench.proofs.all_ready as all-ready
-use Rattle.bench.proofs.all_ready.Symbol as all-ready-def
-use Rattle.bench.proofs.all_ready.Symbol.{name as #bench·all-ready}
-use Rattle.bench.proofs.all_ready.Met as all-ready-thm
-use Rattle.bench.proofs.ready_status as ready-status
-use Rattle.bench.proofs.ready_status.Symbol as ready-status-def
-use Rattle.bench.proofs.ready_status.Symbol.{name as #bench·ready-status}
-use Rattle.bench.proofs.ready_status.Met as ready-status-thm
-use Rattle.bench.proofs.status_at as status-at
-use Rattle.bench.proofs.status_at.Symbol as status-at-def
-use Rattle.bench.proofs.status_at.Symbol.{name as #bench·status-at}
-use Rattle.bench.proofs.status_at.Met as status-at-thm
-use Rattle.bench.proofs.put as put
-use Rattle.bench.proofs.put.Symbol as put-def
-use Rattle.bench.proofs.put.Symbol.{name as #bench·put}
-use Rattle.bench.proofs.put.Met as put-thm
-use Rattle.bench.proofs.load.Key.{name as #bench·load}
-use Rattle.bench.proofs.load as f
-use Rattle.bench.proofs.load.Statement as stated
-use Rattle.bench.proofs.load.Code as code
-use Rattle.bench.proofs.load.Code.Mir as mir
+use Rattle.statuses.proofs.Copies.{padTo, pad-more, pad-all}
+use Rattle.statuses.proofs.at_most_32 as at-most-32
+use Rattle.statuses.proofs.at_most_32.Symbol as at-most-32-def
+use Rattle.statuses.proofs.at_most_32.Symbol.{name as #statuses·at-most-32}
+use Rattle.statuses.proofs.at_most_32.Met as at-most-32-thm
+use Rattle.statuses.proofs.all_ready as all-ready
+use Rattle.statuses.proofs.all_ready.Symbol as all-ready-def
+use Rattle.statuses.proofs.all_ready.Symbol.{name as #statuses·all-ready}
+use Rattle.statuses.proofs.all_ready.Met as all-ready-thm
+use Rattle.statuses.proofs.ready_status as ready-status
+use Rattle.statuses.proofs.ready_status.Symbol as ready-status-def
+use Rattle.statuses.proofs.ready_status.Symbol.{name as #statuses·ready-status}
+use Rattle.statuses.proofs.ready_status.Met as ready-status-thm
+use Rattle.statuses.proofs.status_at as status-at
+use Rattle.statuses.proofs.status_at.Symbol as status-at-def
+use Rattle.statuses.proofs.status_at.Symbol.{name as #statuses·status-at}
+use Rattle.statuses.proofs.status_at.Met as status-at-thm
+use Rattle.statuses.proofs.put as put
+use Rattle.statuses.proofs.put.Symbol as put-def
+use Rattle.statuses.proofs.put.Symbol.{name as #statuses·put}
+use Rattle.statuses.proofs.put.Met as put-thm
+use Rattle.statuses.proofs.load.Key.{name as #statuses·load}
+use Rattle.statuses.proofs.load as f
+use Rattle.statuses.proofs.load.Statement as stated
+use Rattle.statuses.proofs.load.Code as code
+use Rattle.statuses.proofs.load.Code.Mir as mir
 
 abbrev stayed : Stays (f.ended .signature .params) (f.ended .kept)
 stayed = (stay-none-slice (0 ∷ []) tt (plain (λ _. T.the-row)) yes, tt)
@@ -126,11 +126,11 @@ module _ {M : Type 1} (𝓤 : URA M) (H : Heap 𝓤) (A : Atoms 𝓤) (mem : Mem
   Put = tripleOf 𝓤 H A put.signature (put.spec 𝓤 H A mem run)
 
   record Known (C : Calls 𝓤 H) : Type 1 where
-    at-most-32 : Triple 𝓤 (C #bench·at-most-32) AtMost
-    all-ready : Triple 𝓤 (C #bench·all-ready) AllReady
-    ready-status : Triple 𝓤 (C #bench·ready-status) ReadyStatus
-    status-at : Triple 𝓤 (C #bench·status-at) StatusAt
-    put : Triple 𝓤 (C #bench·put) Put
+    at-most-32 : Triple 𝓤 (C #statuses·at-most-32) AtMost
+    all-ready : Triple 𝓤 (C #statuses·all-ready) AllReady
+    ready-status : Triple 𝓤 (C #statuses·ready-status) ReadyStatus
+    status-at : Triple 𝓤 (C #statuses·status-at) StatusAt
+    put : Triple 𝓤 (C #statuses·put) Put
 
 module _ {M : Type 1} (𝓤 : URA M) (H : Heap 𝓤) (A : Atoms 𝓤) (W : Given 𝓤 H A) (mem : Memory → SProp 𝓤) (run : Routine → Fun 𝓤) (κ : Lft) (q : Share) (b o : ℕ) (γ : GName) (ys : List Status) where
   abbrev x : RefT (List Status)
@@ -292,11 +292,11 @@ pub load-spec : {M : Type 1} → stated.statement M
 unfolding code.routine tablesOf
 load-spec 𝓤 H 𝓜 𝓖 𝓡 =
     entered 𝓤 H (tripleOf 𝓤 H (𝓖 .A) f.signature (f.spec 𝓤 H (𝓖 .A) (𝓜 .mem) (𝓡 .run)))
-    (tables 𝓤 H 𝓜 𝓡 code.env .C) (tables 𝓤 H 𝓜 𝓡 code.env .Λ) #bench·load code.function (code.unfolded 𝓤 H 𝓜 𝓡)
+    (tables 𝓤 H 𝓜 𝓡 code.env .C) (tables 𝓤 H 𝓜 𝓡 code.env .Λ) #statuses·load code.function (code.unfolded 𝓤 H 𝓜 𝓡)
     (load-meets 𝓤 H (𝓖 .A) (givenOf 𝓤 H 𝓜 𝓖) (𝓜 .mem) (𝓡 .run) (tablesOf 𝓤 H 𝓜 (tables 𝓤 H 𝓜 𝓡 code.env)) (record {
-      at-most-32 = cited 𝓤 H (AtMost 𝓤 H (𝓖 .A) (𝓜 .mem) (𝓡 .run)) 𝓜 𝓡 code.env #bench·at-most-32 at-most-32-def.routine code.calls-bench·at-most-32 (at-most-32-thm.met 𝓤 H 𝓜 𝓖 𝓡);
-      all-ready = cited 𝓤 H (AllReady 𝓤 H (𝓖 .A) (𝓜 .mem) (𝓡 .run)) 𝓜 𝓡 code.env #bench·all-ready all-ready-def.routine code.calls-bench·all-ready (all-ready-thm.met 𝓤 H 𝓜 𝓖 𝓡);
-      ready-status = cited 𝓤 H (ReadyStatus 𝓤 H (𝓖 .A) (𝓜 .mem) (𝓡 .run)) 𝓜 𝓡 code.env #bench·ready-status ready-status-def.routine code.calls-bench·ready-status (ready-status-thm.met 𝓤 H 𝓜 𝓖 𝓡);
-      status-at = cited 𝓤 H (StatusAt 𝓤 H (𝓖 .A) (𝓜 .mem) (𝓡 .run)) 𝓜 𝓡 code.env #bench·status-at status-at-def.routine code.calls-bench·status-at (status-at-thm.met 𝓤 H 𝓜 𝓖 𝓡);
-      put = cited 𝓤 H (Put 𝓤 H (𝓖 .A) (𝓜 .mem) (𝓡 .run)) 𝓜 𝓡 code.env #bench·put put-def.routine code.calls-bench·put (put-thm.met 𝓤 H 𝓜 𝓖 𝓡);
+      at-most-32 = cited 𝓤 H (AtMost 𝓤 H (𝓖 .A) (𝓜 .mem) (𝓡 .run)) 𝓜 𝓡 code.env #statuses·at-most-32 at-most-32-def.routine code.calls-statuses·at-most-32 (at-most-32-thm.met 𝓤 H 𝓜 𝓖 𝓡);
+      all-ready = cited 𝓤 H (AllReady 𝓤 H (𝓖 .A) (𝓜 .mem) (𝓡 .run)) 𝓜 𝓡 code.env #statuses·all-ready all-ready-def.routine code.calls-statuses·all-ready (all-ready-thm.met 𝓤 H 𝓜 𝓖 𝓡);
+      ready-status = cited 𝓤 H (ReadyStatus 𝓤 H (𝓖 .A) (𝓜 .mem) (𝓡 .run)) 𝓜 𝓡 code.env #statuses·ready-status ready-status-def.routine code.calls-statuses·ready-status (ready-status-thm.met 𝓤 H 𝓜 𝓖 𝓡);
+      status-at = cited 𝓤 H (StatusAt 𝓤 H (𝓖 .A) (𝓜 .mem) (𝓡 .run)) 𝓜 𝓡 code.env #statuses·status-at status-at-def.routine code.calls-statuses·status-at (status-at-thm.met 𝓤 H 𝓜 𝓖 𝓡);
+      put = cited 𝓤 H (Put 𝓤 H (𝓖 .A) (𝓜 .mem) (𝓡 .run)) 𝓜 𝓡 code.env #statuses·put put-def.routine code.calls-statuses·put (put-thm.met 𝓤 H 𝓜 𝓖 𝓡);
     }))

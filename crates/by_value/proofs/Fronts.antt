@@ -13,10 +13,10 @@ use Rattle.feed.specs.declared.Port.{Port}
 use Rattle.feed.specs.Held.{Held, held}
 use Rattle.feed.specs.SettingUp.{Prepared, setsUp}
 use Rattle.feed.specs.Feeding.{feeds}
 use Rattle.bench.specs.declared.Outcome.{Outcome}
 use Rattle.bench.specs.Entries.{leftBySetUp, leftByFeed}
-use Rattle.bench.specs.First.{andRest, setsUpFirst, feedsFirst}
-use Rattle.bench.proofs.Copies.{by-le}
+use Rattle.by_value.specs.First.{andRest, setsUpFirst, feedsFirst}
+use Rattle.statuses.proofs.Copies.{by-le}
 
 take-most : (n k : ℕ) (xs : List Status) → k ≡ min n (length xs) → take k xs ≡ take n xs
 take-most n k xs e =

@@ -6,7 +6,7 @@ use lib.ListN.{length, getD, set, replicate}
 use Rattle.readiness.specs.declared.Status.{Status}
 use Rattle.readiness.specs.Status.{ready, down}
 use Rattle.feed.specs.Held.{lentOf}
-use Rattle.bench.specs.Statuses.{storedOver}
+use Rattle.statuses.specs.Statuses.{storedOver}
 
 -- one status is lent: it is copied, and 31 are Ready
 one-in : lentOf 32 (down ∷ []) ≡ down ∷ replicate 31 ready

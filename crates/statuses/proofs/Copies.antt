@@ -13,7 +13,7 @@ use Rattle.trace.proofs.Tests.{split}
 use Rattle.readiness.specs.declared.Status.{Status}
 use Rattle.readiness.specs.Status.{ready}
 use Rattle.feed.specs.Held.{lentOf}
-use Rattle.bench.specs.Statuses.{storedOver}
+use Rattle.statuses.specs.Statuses.{storedOver}
 
 pub by-le : {P : Type 0} (n m : ℕ) → (n ≤ m → P) → (m < n → P) → P
 by-le n m f g = split (leb n m) (λ e. f (leb-true n m e)) (λ e. g (leb-false n m e))

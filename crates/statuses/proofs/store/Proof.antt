@@ -1,4 +1,4 @@
--- `bench::store` meets its contract: a walk of its MIR, by hand, with a loop. A turn takes one element of the array by `taken`, and lends the slice to `replace_status` for a lifetime of the call (`Lent.antt`).
+-- `statuses::store` meets its contract: a walk of its MIR, by hand, with a loop. A turn takes one element of the array by `taken`, and lends the slice to `replace_status` for a lifetime of the call (`Lent.antt`).
 -- Assumes nothing.
 use mathlib.Core.Path.{_≡_, refl, sym, _∙_, ap, subst}
 use Prim.Native.Nat.{ℕ, zero, suc, _+_, _-_, _<_, _≤_, _^_, min}
@@ -53,25 +53,25 @@ use Rattle.readiness.proofs.Status as T
 use Rattle.readiness.proofs.Status.Laws as T′
 use Rattle.walks.proofs.Lent.{at-list, lend-slice, back-slice}
 use Rattle.walks.proofs.Walks.{before, before-plain, after}
-use Rattle.bench.specs.Statuses.{storedOver}
-use Rattle.bench.proofs.Copies.{writeTo, write-more, write-all}
-use Rattle.bench.proofs.at_most_32 as at-most-32
-use Rattle.bench.proofs.at_most_32.Symbol as at-most-32-def
-use Rattle.bench.proofs.at_most_32.Symbol.{name as #bench·at-most-32}
-use Rattle.bench.proofs.at_most_32.Met as at-most-32-thm
-use Rattle.bench.proofs.taken as taken
-use Rattle.bench.proofs.taken.Symbol as taken-def
-use Rattle.bench.proofs.taken.Symbol.{name as #bench·taken}
-use Rattle.bench.proofs.taken.Met as taken-thm
-use Rattle.bench.proofs.replace_status as replace-status
-use Rattle.bench.proofs.replace_status.Symbol as replace-status-def
-use Rattle.bench.proofs.replace_status.Symbol.{name as #bench·replace-status}
-use Rattle.bench.proofs.replace_status.Met as replace-status-thm
-use Rattle.bench.proofs.store.Key.{name as #bench·store}
-use Rattle.bench.proofs.store as f
-use Rattle.bench.proofs.store.Statement as stated
-use Rattle.bench.proofs.store.Code as code
-use Rattle.bench.proofs.store.Code.Mir as mir
+use Rattle.statuses.specs.Statuses.{storedOver}
+use Rattle.statuses.proofs.Copies.{writeTo, write-more, write-all}
+use Rattle.statuses.proofs.at_most_32 as at-most-32
+use Rattle.statuses.proofs.at_most_32.Symbol as at-most-32-def
+use Rattle.statuses.proofs.at_most_32.Symbol.{name as #statuses·at-most-32}
+use Rattle.statuses.proofs.at_most_32.Met as at-most-32-thm
+use Rattle.statuses.proofs.taken as taken
+use Rattle.statuses.proofs.taken.Symbol as taken-def
+use Rattle.statuses.proofs.taken.Symbol.{name as #statuses·taken}
+use Rattle.statuses.proofs.taken.Met as taken-thm
+use Rattle.statuses.proofs.replace_status as replace-status
+use Rattle.statuses.proofs.replace_status.Symbol as replace-status-def
+use Rattle.statuses.proofs.replace_status.Symbol.{name as #statuses·replace-status}
+use Rattle.statuses.proofs.replace_status.Met as replace-status-thm
+use Rattle.statuses.proofs.store.Key.{name as #statuses·store}
+use Rattle.statuses.proofs.store as f
+use Rattle.statuses.proofs.store.Statement as stated
+use Rattle.statuses.proofs.store.Code as code
+use Rattle.statuses.proofs.store.Code.Mir as mir
 
 abbrev AR : RattleType
 AR = Array T.the-row 32
@@ -122,9 +122,9 @@ module _ {M : Type 1} (𝓤 : URA M) (H : Heap 𝓤) (A : Atoms 𝓤) (mem : Mem
   Replace = tripleOf 𝓤 H A replace-status.signature (replace-status.spec 𝓤 H A mem run)
 
   record Known (C : Calls 𝓤 H) : Type 1 where
-    at-most-32 : Triple 𝓤 (C #bench·at-most-32) AtMost
-    takes : Triple 𝓤 (C #bench·taken) Taken
-    replace-status : Triple 𝓤 (C #bench·replace-status) Replace
+    at-most-32 : Triple 𝓤 (C #statuses·at-most-32) AtMost
+    takes : Triple 𝓤 (C #statuses·taken) Taken
+    replace-status : Triple 𝓤 (C #statuses·replace-status) Replace
 
 module _ {M : Type 1} (𝓤 : URA M) (H : Heap 𝓤) (A : Atoms 𝓤) (W : Given 𝓤 H A) (mem : Memory → SProp 𝓤) (run : Routine → Fun 𝓤) (κ : Lft) (q : Share) (b o : ℕ) (γ : GName) (ys ws : List Status) where
   abbrev x : GName → List Status → RefT (List Status)
@@ -285,9 +285,9 @@ pub store-spec : {M : Type 1} → stated.statement M
 unfolding code.routine tablesOf
 store-spec 𝓤 H 𝓜 𝓖 𝓡 =
     entered 𝓤 H (tripleOf 𝓤 H (𝓖 .A) f.signature (f.spec 𝓤 H (𝓖 .A) (𝓜 .mem) (𝓡 .run)))
-    (tables 𝓤 H 𝓜 𝓡 code.env .C) (tables 𝓤 H 𝓜 𝓡 code.env .Λ) #bench·store code.function (code.unfolded 𝓤 H 𝓜 𝓡)
+    (tables 𝓤 H 𝓜 𝓡 code.env .C) (tables 𝓤 H 𝓜 𝓡 code.env .Λ) #statuses·store code.function (code.unfolded 𝓤 H 𝓜 𝓡)
     (store-meets 𝓤 H (𝓖 .A) (givenOf 𝓤 H 𝓜 𝓖) (𝓜 .mem) (𝓡 .run) (tablesOf 𝓤 H 𝓜 (tables 𝓤 H 𝓜 𝓡 code.env)) (record {
-      at-most-32 = cited 𝓤 H (AtMost 𝓤 H (𝓖 .A) (𝓜 .mem) (𝓡 .run)) 𝓜 𝓡 code.env #bench·at-most-32 at-most-32-def.routine code.calls-bench·at-most-32 (at-most-32-thm.met 𝓤 H 𝓜 𝓖 𝓡);
-      takes = cited 𝓤 H (Taken 𝓤 H (𝓖 .A) (𝓜 .mem) (𝓡 .run)) 𝓜 𝓡 code.env #bench·taken taken-def.routine code.calls-bench·taken (taken-thm.met 𝓤 H 𝓜 𝓖 𝓡);
-      replace-status = cited 𝓤 H (Replace 𝓤 H (𝓖 .A) (𝓜 .mem) (𝓡 .run)) 𝓜 𝓡 code.env #bench·replace-status replace-status-def.routine code.calls-bench·replace-status (replace-status-thm.met 𝓤 H 𝓜 𝓖 𝓡);
+      at-most-32 = cited 𝓤 H (AtMost 𝓤 H (𝓖 .A) (𝓜 .mem) (𝓡 .run)) 𝓜 𝓡 code.env #statuses·at-most-32 at-most-32-def.routine code.calls-statuses·at-most-32 (at-most-32-thm.met 𝓤 H 𝓜 𝓖 𝓡);
+      takes = cited 𝓤 H (Taken 𝓤 H (𝓖 .A) (𝓜 .mem) (𝓡 .run)) 𝓜 𝓡 code.env #statuses·taken taken-def.routine code.calls-statuses·taken (taken-thm.met 𝓤 H 𝓜 𝓖 𝓡);
+      replace-status = cited 𝓤 H (Replace 𝓤 H (𝓖 .A) (𝓜 .mem) (𝓡 .run)) 𝓜 𝓡 code.env #statuses·replace-status replace-status-def.routine code.calls-statuses·replace-status (replace-status-thm.met 𝓤 H 𝓜 𝓖 𝓡);
     }))

@@ -1,4 +1,4 @@
--- `bench::replace_status` meets its contract, by the theorem for every struct. Assumes nothing.
+-- `statuses::replace_status` meets its contract, by the theorem for every struct. Assumes nothing.
 use mathlib.Core.Path.{refl}
 use contract.Running.{givenOf, tables, tablesOf}
 use denote.Triple.Spec.{tripleOf}
@@ -6,14 +6,14 @@ use denote.Triple.Table.{entered}
 use Rattle.walks.proofs.Total.{put-if-meets}
 use Rattle.readiness.proofs.Status as S
 use Rattle.readiness.proofs.Status.Laws as S′
-use Rattle.bench.proofs.replace_status.Key.{name as #bench·replace-status}
-use Rattle.bench.proofs.replace_status as f
-use Rattle.bench.proofs.replace_status.Statement as stated
-use Rattle.bench.proofs.replace_status.Code as code
+use Rattle.statuses.proofs.replace_status.Key.{name as #statuses·replace-status}
+use Rattle.statuses.proofs.replace_status as f
+use Rattle.statuses.proofs.replace_status.Statement as stated
+use Rattle.statuses.proofs.replace_status.Code as code
 
 pub replace-status-spec : {M : Type 1} → stated.statement M
 unfolding code.routine tablesOf
 replace-status-spec 𝓤 H 𝓜 𝓖 𝓡 =
     entered 𝓤 H (tripleOf 𝓤 H (𝓖 .A) f.signature (f.spec 𝓤 H (𝓖 .A) (𝓜 .mem) (𝓡 .run)))
-    (tables 𝓤 H 𝓜 𝓡 code.env .C) (tables 𝓤 H 𝓜 𝓡 code.env .Λ) #bench·replace-status code.function (code.unfolded 𝓤 H 𝓜 𝓡)
+    (tables 𝓤 H 𝓜 𝓡 code.env .C) (tables 𝓤 H 𝓜 𝓡 code.env .Λ) #statuses·replace-status code.function (code.unfolded 𝓤 H 𝓜 𝓡)
     (put-if-meets S.the-type S′.the-laws S′.the-plain tt 𝓤 H (𝓖 .A) (givenOf 𝓤 H 𝓜 𝓖) (λ w. tt) (λ κs x f. refl) (tablesOf 𝓤 H 𝓜 (tables 𝓤 H 𝓜 𝓡 code.env)))

@@ -1,4 +1,4 @@
--- `bench::feed_first` meets its contract: a walk of its MIR, by hand. The port, a local, and the first k of the statuses, a local array, are lent to `feed`, each for a lifetime of its own, and come back; `fed_with`, which is covered, makes the result of them.
+-- `by_value::feed_first` meets its contract: a walk of its MIR, by hand. The port, a local, and the first k of the statuses, a local array, are lent to `feed`, each for a lifetime of its own, and come back; `fed_with`, which is covered, makes the result of them.
 -- All that the proof knows of the callees is that each meets its contract.
 -- Assumes nothing.
 use mathlib.Core.Path.{_≡_, refl, ap, sym, _∙_}
@@ -60,28 +60,28 @@ use Rattle.feed.proofs.Port as P
 use Rattle.feed.proofs.Port.Laws as P′
 use Rattle.feed.proofs.Fed as R
 use Rattle.feed.proofs.Fed.Laws as R′
 use Rattle.bench.specs.Entries.{leftByFeed}
-use Rattle.bench.specs.First.{feedsFirst}
-use Rattle.bench.proofs.Fronts.{fed-first}
+use Rattle.by_value.specs.First.{feedsFirst}
+use Rattle.by_value.proofs.Fronts.{fed-first}
 use Rattle.bench.specs.declared.Outcome.{Outcome}
 use Rattle.bench.proofs.Outcome as O
 use Rattle.bench.proofs.Outcome.Laws as O′
-use Rattle.bench.proofs.at_most_32 as at-most-32
-use Rattle.bench.proofs.at_most_32.Symbol as at-most-32-def
-use Rattle.bench.proofs.at_most_32.Symbol.{name as #bench·at-most-32}
-use Rattle.bench.proofs.at_most_32.Met as at-most-32-thm
+use Rattle.statuses.proofs.at_most_32 as at-most-32
+use Rattle.statuses.proofs.at_most_32.Symbol as at-most-32-def
+use Rattle.statuses.proofs.at_most_32.Symbol.{name as #statuses·at-most-32}
+use Rattle.statuses.proofs.at_most_32.Met as at-most-32-thm
 use Rattle.bench.proofs.feed as entry
 use Rattle.bench.proofs.feed.Symbol as entry-def
 use Rattle.bench.proofs.feed.Symbol.{name as #bench·feed}
 use Rattle.bench.proofs.feed.Met as entry-thm
-use Rattle.bench.proofs.fed_with as made
-use Rattle.bench.proofs.fed_with.Symbol as made-def
-use Rattle.bench.proofs.fed_with.Symbol.{name as #bench·fed-with}
-use Rattle.bench.proofs.fed_with.Met as made-thm
-use Rattle.bench.proofs.feed_first.Key.{name as #bench·feed-first}
-use Rattle.bench.proofs.feed_first as f
-use Rattle.bench.proofs.feed_first.Statement as stated
-use Rattle.bench.proofs.feed_first.Code as code
+use Rattle.by_value.proofs.fed_with as made
+use Rattle.by_value.proofs.fed_with.Symbol as made-def
+use Rattle.by_value.proofs.fed_with.Symbol.{name as #by-value·fed-with}
+use Rattle.by_value.proofs.fed_with.Met as made-thm
+use Rattle.by_value.proofs.feed_first.Key.{name as #by-value·feed-first}
+use Rattle.by_value.proofs.feed_first as f
+use Rattle.by_value.proofs.feed_first.Statement as stated
+use Rattle.by_value.proofs.feed_first.Code as code
 
 abbrev AR : RattleType
 AR = Array T.the-row 32
@@ -134,9 +134,9 @@ module _ {M : Type 1} (𝓤 : URA M) (H : Heap 𝓤) (A : Atoms 𝓤) (at-mem : 
   Made = tripleOf 𝓤 H A made.signature (made.spec 𝓤 H A at-mem run)
 
   record Known (C : Calls 𝓤 H) : Type 1 where
-    at-most-32 : Triple 𝓤 (C #bench·at-most-32) AtMost
+    at-most-32 : Triple 𝓤 (C #statuses·at-most-32) AtMost
     entry : Triple 𝓤 (C #bench·feed) Entry
-    made : Triple 𝓤 (C #bench·fed-with) Made
+    made : Triple 𝓤 (C #by-value·fed-with) Made
 
 module _ {M : Type 1} (𝓤 : URA M) (H : Heap 𝓤) (A : Atoms 𝓤) (W : Given 𝓤 H A) (at-mem : Memory → SProp 𝓤) (run : Routine → Fun 𝓤)
     (κ₀ κ₁ κ₂ κ₃ κ₄ : Lft) (q₀ q₁ q₂ q₃ q₄ : Share) (bounds : AllOutlive 5 (f.signature .outlives) (κ₀, (κ₁, (κ₂, (κ₃, (κ₄, tt)))))) (st : Setup) (h : Port) (xs : List Status) (n : ℕ) (y : RefT (List ℕ)) (x : RefT (List ℕ)) (z : RefT (List ℕ)) (i : RefT (List ℕ)) (o′ : RefT (List ℕ)) where
@@ -449,9 +449,9 @@ pub feed-first-spec : {M : Type 1} → stated.statement M
 unfolding code.routine tablesOf
 feed-first-spec 𝓤 H 𝓜 𝓖 𝓡 =
     entered 𝓤 H (tripleOf 𝓤 H (𝓖 .A) f.signature (f.spec 𝓤 H (𝓖 .A) (𝓜 .mem) (𝓡 .run)))
-    (tables 𝓤 H 𝓜 𝓡 code.env .C) (tables 𝓤 H 𝓜 𝓡 code.env .Λ) #bench·feed-first code.function (code.unfolded 𝓤 H 𝓜 𝓡)
+    (tables 𝓤 H 𝓜 𝓡 code.env .C) (tables 𝓤 H 𝓜 𝓡 code.env .Λ) #by-value·feed-first code.function (code.unfolded 𝓤 H 𝓜 𝓡)
     (feed-first-meets 𝓤 H (𝓖 .A) (givenOf 𝓤 H 𝓜 𝓖) (𝓜 .mem) (𝓡 .run) (tablesOf 𝓤 H 𝓜 (tables 𝓤 H 𝓜 𝓡 code.env)) (record {
-      at-most-32 = cited 𝓤 H (AtMost 𝓤 H (𝓖 .A) (𝓜 .mem) (𝓡 .run)) 𝓜 𝓡 code.env #bench·at-most-32 at-most-32-def.routine code.calls-bench·at-most-32 (at-most-32-thm.met 𝓤 H 𝓜 𝓖 𝓡);
+      at-most-32 = cited 𝓤 H (AtMost 𝓤 H (𝓖 .A) (𝓜 .mem) (𝓡 .run)) 𝓜 𝓡 code.env #statuses·at-most-32 at-most-32-def.routine code.calls-statuses·at-most-32 (at-most-32-thm.met 𝓤 H 𝓜 𝓖 𝓡);
       entry = cited 𝓤 H (Entry 𝓤 H (𝓖 .A) (𝓜 .mem) (𝓡 .run)) 𝓜 𝓡 code.env #bench·feed entry-def.routine code.calls-bench·feed (entry-thm.met 𝓤 H 𝓜 𝓖 𝓡);
-      made = cited 𝓤 H (Made 𝓤 H (𝓖 .A) (𝓜 .mem) (𝓡 .run)) 𝓜 𝓡 code.env #bench·fed-with made-def.routine code.calls-bench·fed-with (made-thm.met 𝓤 H 𝓜 𝓖 𝓡);
+      made = cited 𝓤 H (Made 𝓤 H (𝓖 .A) (𝓜 .mem) (𝓡 .run)) 𝓜 𝓡 code.env #by-value·fed-with made-def.routine code.calls-by-value·fed-with (made-thm.met 𝓤 H 𝓜 𝓖 𝓡);
     }))

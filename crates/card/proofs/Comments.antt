@@ -10,10 +10,10 @@ use lib.ListN.{length, take, drop, length-drop}
 use lib.Seq.{drop-append-le, take-append-le}
 use Rattle.card.specs.declared.Reason.{Reason}
 use Rattle.card.specs.declared.Reason.the-variants.{Fine, UnknownWord, BadNumber, LineTooShort, LineTooLong}
-use Rattle.card.specs.Text.{isBlank, inField, run, runEnd, fieldStart, fieldEnd, field, noField, same, noNumber, numberOf}
+use Rattle.fields.specs.Text.{numberAt, isBlank, inField, run, runEnd, fieldStart, fieldEnd, field, noField, same, noNumber, numberOf}
 use Rattle.card.specs.Names.{nameSlots, nameQueue, nameBus, namePort, nameSlot, nameWord, nameReset, nameDlUp, nameFlr, nameD3hot, nameFrs, nameYes, nameNo}
-use Rattle.card.specs.Sheet.{slotsPlace, queuePlace, busPlace, portPlace, unfit, wantsWord, numberAt, wantsNumber, wantsEnd, whyNotNumber, enterNumber, slotAt, hexAt, codeAt, wordAllowed, whyNotWord, enterWord, isYes, wantsYesNo, wantsCode, whyNotCodes, whyNotFrs, whyNotSlot, putCode, putFrs, enterSlot, isFact, enterLine}
-use Rattle.card.proofs.Runs.{run-most, runEnd-most, start-most, end-most}
+use Rattle.card.specs.Sheet.{slotsPlace, queuePlace, busPlace, portPlace, unfit, wantsWord, wantsNumber, wantsEnd, whyNotNumber, enterNumber, slotAt, hexAt, codeAt, wordAllowed, whyNotWord, enterWord, isYes, wantsYesNo, wantsCode, whyNotCodes, whyNotFrs, whyNotSlot, putCode, putFrs, enterSlot, isFact, enterLine}
+use Rattle.fields.proofs.Runs.{run-most, runEnd-most, start-most, end-most}
 
 -- a run ends at the latest where a byte stands that doesn't pass
 run-append : (p : ℕ → Bool) (s t : List ℕ) (b : ℕ) → p b ≡ false → run p (s ++ b ∷ t) ≡ run p s

@@ -13,39 +13,8 @@ use Rattle.card.specs.declared.Reason.the-variants.{Fine, UnknownWord, B
 use Rattle.card.specs.declared.CardRead.{CardRead}
 use Rattle.card.specs.Sheet.{firstOf, unfit, wantsWord, wantsNumber, wantsEnd, inRange, notTwice, slotAllowed, put, whyNotNumber, enterNumber, offsetAllowed, wordAllowed, whyNotWord, enterWord, wantsYesNo, wantsCode, whyNotCodes, whyNotFrs, whyNotSlot, putCode, putFrs, enterSlot, enterLine, readLines}
 use Rattle.card.specs.Card.{slotsFrom, setupFrom, missing, room, wordsFrom, storedWords, Outcome, outcomeFrom, cardOf}
-use Rattle.card.specs.Names.{bytesOf}
-use Rattle.card.specs.Text.{inLine, linesOf, isBlank, inField, run, runEnd, fieldStart, field, noField, same, digitOf, valueFrom, widthAllowed, numberOf}
-
--- lines, with or without a last 0Ah
-three-lines : linesOf (bytesOf "a\n\nbc\n") ≡ bytesOf "a" ∷ [] ∷ bytesOf "bc" ∷ []
-unfolding linesOf inLine
-three-lines = refl
-
-no-last-end : linesOf (bytesOf "a\n\nbc") ≡ bytesOf "a" ∷ [] ∷ bytesOf "bc" ∷ []
-unfolding linesOf inLine
-no-last-end = refl
-
--- fields stand apart by spaces, tabs and carriage returns; a comment starts anywhere
-second-field : field 1 (bytesOf "  bus\t 01\r# the first\r") ≡ bytesOf "01"
-unfolding fieldStart run isBlank inField
-second-field = refl
-
-no-third-field : noField 2 (bytesOf "  bus\t 01# the first") ≡ true
-unfolding noField fieldStart run isBlank inField
-no-third-field = refl
-
--- numbers
-decimal : numberOf false 1 8 (bytesOf "4095") ≡ 4095
-unfolding numberOf widthAllowed valueFrom digitOf
-decimal = refl
-
-hex : numberOf true 1 8 (bytesOf "56781234") ≡ 0x56781234
-unfolding numberOf widthAllowed valueFrom digitOf
-hex = refl
-
-either-case : numberOf true 3 3 (bytesOf "a1E") ≡ 0xA1E
-unfolding numberOf widthAllowed valueFrom digitOf
-either-case = refl
+use Rattle.fields.specs.Bytes.{bytesOf}
+use Rattle.fields.specs.Text.{inLine, linesOf, isBlank, inField, run, runEnd, fieldStart, field, noField, same, digitOf, valueFrom, widthAllowed, numberOf}
 
 -- ---- whole texts, with 2,048 words lent
 

@@ -13,11 +13,11 @@ use borrow.Author.Tests.{leb-true, ltb-true, ltb-false, eqb-true, eqb-false, lt-
 use Rattle.bits.proofs.Tests.{both-left, both-right}
 use Rattle.card.specs.declared.Reason.{Reason}
 use Rattle.card.specs.declared.Reason.the-variants.{Fine, BadNumber, LineTooShort, OutOfRange, SlotsFirst, Missing}
-use Rattle.card.specs.Text.{field, noField, noNumber}
-use Rattle.card.specs.Sheet.{notNamed, wordPlace, slotsPlace, queuePlace, busPlace, portPlace, entryPlace, places, named, isFine, firstOf, unfit, wantsWord, numberAt, wantsNumber, inRange, slotAllowed, Entered, entered, put, whyNotNumber, enterNumber, slotAt, hexAt, codeAt, offsetAllowed, wordAllowed, whyNotWord, enterWord, isYes, oneIf, wantsCode, whyNotCodes, whyNotFrs, whyNotSlot, putCode, putFrs, enterSlot, isFact, enterLine, Told, readLines}
+use Rattle.fields.specs.Text.{numberAt, field, noField, noNumber}
+use Rattle.card.specs.Sheet.{notNamed, wordPlace, slotsPlace, queuePlace, busPlace, portPlace, entryPlace, places, named, isFine, firstOf, unfit, wantsWord, wantsNumber, inRange, slotAllowed, Entered, entered, put, whyNotNumber, enterNumber, slotAt, hexAt, codeAt, offsetAllowed, wordAllowed, whyNotWord, enterWord, isYes, oneIf, wantsCode, whyNotCodes, whyNotFrs, whyNotSlot, putCode, putFrs, enterSlot, isFact, enterLine, Told, readLines}
 use Rattle.card.specs.Names.{nameSlots, nameQueue, nameBus, namePort, nameSlot, nameWord, nameReset, nameDlUp, nameFlr, nameD3hot}
 use Rattle.card.specs.Card.{blankSheet, namedBelow}
-use Rattle.card.proofs.Numbers.{code-small}
+use Rattle.fields.proofs.Numbers.{code-small}
 
 -- ---- reasons
 

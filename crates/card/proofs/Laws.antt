@@ -11,7 +11,7 @@ use lib.ListN.{length}
 use borrow.Author.Tests.{eqb-true}
 use Rattle.card.specs.declared.Reason.{Reason}
 use Rattle.card.specs.declared.Reason.the-variants.{NoRoom}
-use Rattle.card.specs.Text.{linesOf}
+use Rattle.fields.specs.Text.{linesOf}
 use Rattle.card.specs.Sheet.{notNamed, wordPlace, slotsPlace, queuePlace, busPlace, portPlace, entryPlace, named, isFine, firstOf, enterLine, Told, readLines}
 use Rattle.card.specs.Card.{blankSheet, namedBelow, setupFrom, mustBeNamed, missing, room, wordsFrom, storedWords, outcomeFrom, cardOf}
 use Rattle.card.proofs.Comments.{comment-line}

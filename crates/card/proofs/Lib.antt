@@ -1,6 +1,3 @@
-pub mod Runs
-pub mod Same
-pub mod Numbers
 pub mod Lines
 pub mod Reading
 pub mod Examples

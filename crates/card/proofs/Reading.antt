@@ -7,7 +7,7 @@ use Prim.Native.Nat.{ℕ, _%_}
 use lib.ListN.{length}
 use Rattle.readiness.specs.declared.Setup.{Setup}
 use Rattle.card.specs.declared.Reason.{Reason}
-use Rattle.card.specs.Text.{linesOf}
+use Rattle.fields.specs.Text.{linesOf}
 use Rattle.card.specs.Sheet.{queuePlace, named, isFine, firstOf, Told, told, readLines}
 use Rattle.card.specs.Card.{blankSheet, setupFrom, missing, room, storedWords, outcome, outcomeFrom, cardOf}
 

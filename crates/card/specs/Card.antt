@@ -9,7 +9,7 @@ use Rattle.bits.specs.Lists.{listed}
 use Rattle.times.specs.declared.Code.{Code}
 use Rattle.readiness.specs.declared.Slot.{Slot}
 use Rattle.readiness.specs.declared.Setup.{Setup}
-use Rattle.card.specs.Text.{linesOf}
+use Rattle.fields.specs.Text.{linesOf}
 use Rattle.card.specs.Sheet.{notNamed, slotsPlace, queuePlace, busPlace, portPlace, entryPlace, places, named, isFine, firstOf, Told, readLines}
 use Rattle.card.specs.declared.Reason.{Reason}
 use Rattle.card.specs.declared.Reason.the-variants.{Fine, Missing, NoRoom}

@@ -1,11 +1,28 @@
--- What the lines of a card name, fact by fact, and why a line is refused.
+-- What the lines of a card name, fact by fact, and why a line is refused. The grammar of a card:
+--
+--   text     lines, each ended by 0Ah; the last may lack it
+--   line     nothing or a fact, then nothing or a comment; blanks may stand before and after each
+--   comment  '#' and all that follows it in the line
+--   blanks   spaces, tabs and carriage returns
+--   fact     one of these, with one or more blanks between its fields:
+--     slots N                  N from 1 to 32
+--     queue N                  N from 1 to 4,095
+--     bus HH
+--     port HHHH
+--     slot N reset HHH dlup HHH flr HHH d3hot HHH frs yes|no
+--                              N below slots
+--     word N OFFSET VALUE      N below slots, OFFSET a multiple of 4 below 100h
+--
+-- N is decimal, OFFSET and VALUE are hex, each of 1 to 8 digits; HH, HHH and HHHH are hex of just so many digits. Hex digits may
+-- be small or capital letters; the words are small letters. slots, queue, bus and port stand once each, a slot and a word of a
+-- slot at most once; slots stands before every slot and word, and else the order is free.
 -- Assumes nothing.
 use Prim.Native.Nat.{ℕ, zero, suc, _+_, _*_, _/_, _%_}
 use mathlib.Core.Bool.{Bool, true, false, _&&_, cond}
 use mathlib.Core.List.{List, [], _∷_}
 use lib.Dec.{eqb, leb, ltb}
 use lib.ListN.{getD, set}
-use Rattle.card.specs.Text.{field, noField, same, noNumber, numberOf}
+use Rattle.fields.specs.Text.{field, noField, same, noNumber, numberAt}
 use Rattle.card.specs.Names.{nameSlots, nameQueue, nameBus, namePort, nameSlot, nameWord, nameReset, nameDlUp, nameFlr, nameD3hot, nameFrs, nameYes, nameNo}
 use Rattle.card.specs.declared.Reason.{Reason}
 use Rattle.card.specs.declared.Reason.the-variants.{Fine, UnknownWord, BadNumber, LineTooShort, LineTooLong, OutOfRange, SlotsFirst, NamedTwice, Missing, NoRoom}
@@ -70,10 +87,6 @@ unfit why k line = cond (noField k line) LineTooShort why
 -- field k must be this word
 unfoldable pub wantsWord : List ℕ → ℕ → List ℕ → Reason
 wantsWord word k line = cond (same (field k line) word) Fine (unfit UnknownWord k line)
-
--- the number that field k is
-abbrev pub numberAt : (hex : Bool) (least most k : ℕ) → List ℕ → ℕ
-numberAt hex least most k line = numberOf hex least most (field k line)
 
 -- field k must be a number with so many digits
 unfoldable pub wantsNumber : (hex : Bool) (least most k : ℕ) → List ℕ → Reason

@@ -6,9 +6,9 @@ use native.Mathlib.Omega.{arith}
 use denote.Ref.{now}
 use lib.ListN.{length, drop}
 use borrow.Author.Needs.{needs}
-use Rattle.card.specs.Text.{part, inLine, linesOf, runEnd}
+use Rattle.fields.specs.Text.{part, inLine, linesOf, runEnd}
 use Rattle.card.specs.Sheet.{enterLine, readLines}
-use Rattle.card.proofs.Runs.{runEnd-most}
+use Rattle.fields.proofs.Runs.{runEnd-most}
 use Rattle.card.proofs.Lines.{nextLine, lines-at, next-more, next-most, read-fine, read-refused, read-all}
 use Rattle.card.proofs.read_lines.Statement.{statement}
 use Rattle.card.proofs.read_lines.Tie as tie

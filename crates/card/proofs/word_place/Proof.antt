@@ -2,8 +2,8 @@
 use mathlib.Core.Bool.{true, false}
 use native.Mathlib.Omega.{arith}
 use denote.Ref.{now}
-use Rattle.card.specs.Text.{field}
-use Rattle.card.proofs.Numbers.{number-most}
+use Rattle.fields.specs.Text.{field}
+use Rattle.fields.proofs.Numbers.{number-most}
 use borrow.Author.Needs.{needs}
 use Rattle.card.proofs.word_place.Statement.{statement}
 use Rattle.card.proofs.word_place.Tie as tie

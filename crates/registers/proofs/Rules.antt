@@ -5,11 +5,11 @@ use mathlib.Core.Bool.{Bool, true, false, not, _&&_, _||_, cond}
 use mathlib.Core.List.{List, [], _∷_}
 use Prim.Native.Nat.{ℕ, _*_, _<_, _≤_}
 use native.Mathlib.Omega.{arith}
-use lib.Dec.{T, eqb, ltb, ltb→lt}
-use borrow.Author.Tests.{ne-eqb}
+use lib.Dec.{T, eqb, eqb→eq, ltb, ltb→lt}
+use borrow.Author.Tests.{ne-eqb, ltb-true, ltb-false}
 use Rattle.bits.specs.Bits.{bit}
 use Rattle.bits.proofs.Bits.{bit-none, word-none}
-use Rattle.bits.proofs.Tests.{and-left, and-right, truth}
+use Rattle.bits.proofs.Tests.{all, all-at, and-left, and-right, truth}
 use Rattle.registers.specs.declared.Row.{Row}
 use Rattle.registers.specs.declared.Kind.{Kind}
 use Rattle.registers.specs.declared.Kind.the-variants.{Endpoint}
@@ -38,6 +38,17 @@ past (line o w c s k ∷ ls) t offset h =
 pub endpoint-past : (i : ℕ) → 64 ≤ i → endpointRow i ≡ noBits
 unfolding endpointRow endpointTable within
 endpoint-past i h = past endpointTable tt (i * 4) (omega arith)
+
+-- a mask that is 0 at every word below 64 but some is 0 at every other word: one test over the table
+pub none-else : (mask : Row → ℕ) (some : ℕ → Bool) → T (all 64 (λ i. some i || eqb (mask (endpointRow i)) 0)) → mask noBits ≡ 0
+    → (i : ℕ) → some i ≡ false → 0 ≡ mask (endpointRow i)
+none-else mask some t z i e =
+    let by : (b : Bool) → ltb i 64 ≡ b → 0 ≡ mask (endpointRow i) =
+    elim [
+      | true ↦ λ l. sym (eqb→eq _ 0 (rw e at (all-at 64 (λ i. some i || eqb (mask (endpointRow i)) 0) t i (ltb-true i 64 l))))
+      | false ↦ λ l. sym (ap mask (endpoint-past i (ltb-false i 64 l)) ∙ z)
+    ] in
+    by (ltb i 64) refl
 
 pub row-of-kind : (kind : Kind) (i : ℕ) → endpointRow i ≡ rowOf kind i
 unfolding rowOf

@@ -2,7 +2,7 @@
 -- resets of one slot and of all.
 -- Assumes nothing.
 use Prim.Native.Nat.{ℕ, _+_, _*_, _/_, _%_}
-use mathlib.Core.Bool.{Bool, true, _&&_}
+use mathlib.Core.Bool.{Bool, true, not, _&&_}
 use mathlib.Core.List.{List}
 use lib.Dec.{eqb, leb, ltb}
 use lib.ListN.{length, getD, set}
@@ -10,6 +10,7 @@ use Rattle.bits.specs.Lists.{replaced}
 use Rattle.registers.specs.declared.Kind.{Kind}
 use Rattle.registers.specs.declared.Reset.{Reset}
 use Rattle.registers.specs.declared.Reset.the-variants.{LinkDown, Flr, Cold}
+use Rattle.registers.specs.Rows.{rowOf}
 use Rattle.registers.specs.Words.{readWord, writeWord, linkReset, flrReset, hardwareSet}
 
 -- word i of a slot, i below 64, stands here among the lent words
@@ -70,3 +71,10 @@ unfoldable pub resetWord : Reset → Kind → (i live default : ℕ) → ℕ
 resetWord LinkDown kind i live default = linkReset kind i live default
 resetWord Flr kind i live default = flrReset kind i live default
 resetWord Cold kind i live default = coldWord i live default
+
+-- a word that has bits in W or in C
+abbrev pub changing : Kind → ℕ → Bool
+changing kind i = not (eqb (rowOf kind i .w) 0 && eqb (rowOf kind i .c) 0)
+
+abbrev pub changingBetween : Kind → (from to n : ℕ) → Bool
+changingBetween kind from to n = between from to n && changing kind (n % 64)

@@ -1,10 +1,11 @@
 // The registers in configuration space: what a read, a write, a reset and the hardware do to one word, and the resets of one slot
 // and of all slots over the lent words, 64 to a slot.
 ghost use mathlib.Core.Path.{_≡_};
-ghost use Prim.Native.Nat.{_+_, _*_, _<_, min};
-ghost use Rattle.registers.specs.Rows.{column, rowOf, endpointRow, readsZero, defaultMustBeZero, defaultAllowed, startsFlr};
+ghost use Prim.Native.Nat.{_+_, _*_, _<_, _≤_, min};
+ghost use lib.ListN.{length, getD, set};
+ghost use Rattle.registers.specs.Rows.{rowOf, endpointRow, readsZero, defaultMustBeZero, defaultAllowed, startsFlr};
 ghost use Rattle.registers.specs.Words.{laneMask, powerState, held as heldBits, readWord, writeWord, linkReset, flrReset, hardwareSet};
-ghost use Rattle.registers.specs.Functions.{readSlotWord, writeSlotWord, hardwareSetSlotWord, resetWord, resetWhere, between, inSlot, linkResetSlot, flrResetSlot, linkResetAll, coldReset};
+ghost use Rattle.registers.specs.Functions.{readSlotWord, writeSlotWord, hardwareSetSlotWord, resetWord, resetWhere, between, changingBetween, inSlot, linkResetSlot, flrResetSlot, linkResetAll, coldReset};
 
 // What a slot holds: it selects the attributes of its words.
 pub enum Kind {
@@ -19,284 +20,6 @@ pub struct Row {
     pub s: u32,
     pub k: u32,
 }
-
-// The attributes of an endpoint's 64 words, four masks to a word: W, C, S, K.
-const TABLE: [u32; 256] = [
-    // read-only
-    0,
-    0,
-    0,
-    0,
-    // 04h command, status
-    0x00000547,
-    0xF9000000,
-    0,
-    0,
-    // read-only
-    0,
-    0,
-    0,
-    0,
-    // 0Ch cache line
-    0x000000FF,
-    0,
-    0,
-    0,
-    // 10h BAR0
-    0xFFFF0000,
-    0,
-    0,
-    0,
-    // read-only
-    0,
-    0,
-    0,
-    0,
-    0,
-    0,
-    0,
-    0,
-    0,
-    0,
-    0,
-    0,
-    0,
-    0,
-    0,
-    0,
-    0,
-    0,
-    0,
-    0,
-    0,
-    0,
-    0,
-    0,
-    0,
-    0,
-    0,
-    0,
-    0,
-    0,
-    0,
-    0,
-    0,
-    0,
-    0,
-    0,
-    0,
-    0,
-    0,
-    0,
-    // 3Ch interrupt line
-    0x000000FF,
-    0,
-    0,
-    0,
-    // read-only
-    0,
-    0,
-    0,
-    0,
-    // 44h PMCSR
-    0x00000103,
-    0x00008000,
-    0x00008100,
-    0,
-    // read-only
-    0,
-    0,
-    0,
-    0,
-    0,
-    0,
-    0,
-    0,
-    // 50h MSI control
-    0x00710000,
-    0,
-    0,
-    0,
-    // 54h MSI address
-    0xFFFFFFFC,
-    0,
-    0,
-    0,
-    // 58h MSI data
-    0x0000FFFF,
-    0,
-    0,
-    0,
-    // read-only
-    0,
-    0,
-    0,
-    0,
-    0,
-    0,
-    0,
-    0,
-    0,
-    0,
-    0,
-    0,
-    0,
-    0,
-    0,
-    0,
-    0,
-    0,
-    0,
-    0,
-    0,
-    0,
-    0,
-    0,
-    0,
-    0,
-    0,
-    0,
-    // 78h device control, status
-    0x000079FF,
-    0x000F0000,
-    0,
-    0x000000E0,
-    // read-only
-    0,
-    0,
-    0,
-    0,
-    // 80h link control
-    0x000000CB,
-    0,
-    0,
-    0x000000CB,
-    // read-only
-    0,
-    0,
-    0,
-    0,
-    0,
-    0,
-    0,
-    0,
-    0,
-    0,
-    0,
-    0,
-    0,
-    0,
-    0,
-    0,
-    0,
-    0,
-    0,
-    0,
-    0,
-    0,
-    0,
-    0,
-    0,
-    0,
-    0,
-    0,
-    0,
-    0,
-    0,
-    0,
-    0,
-    0,
-    0,
-    0,
-    0,
-    0,
-    0,
-    0,
-    0,
-    0,
-    0,
-    0,
-    0,
-    0,
-    0,
-    0,
-    0,
-    0,
-    0,
-    0,
-    0,
-    0,
-    0,
-    0,
-    0,
-    0,
-    0,
-    0,
-    0,
-    0,
-    0,
-    0,
-    0,
-    0,
-    0,
-    0,
-    0,
-    0,
-    0,
-    0,
-    0,
-    0,
-    0,
-    0,
-    0,
-    0,
-    0,
-    0,
-    0,
-    0,
-    0,
-    0,
-    0,
-    0,
-    0,
-    0,
-    0,
-    0,
-    0,
-    0,
-    0,
-    0,
-    0,
-    0,
-    0,
-    0,
-    0,
-    0,
-    0,
-    0,
-    0,
-    0,
-    0,
-    0,
-    0,
-    0,
-    0,
-    0,
-    0,
-    0,
-    0,
-    0,
-    0,
-    0,
-    0,
-    0,
-    0,
-    0,
-    0,
-    0,
-    0,
-    0,
-];
 
 // PMCSR at 44h, and device control and status at 78h, as word numbers.
 const PMCSR: usize = 17;
@@ -315,30 +38,77 @@ const INITIATE_FLR: u32 = 0x00008000;
 
 const FLR_CAPABLE: u32 = 0x10000000;
 
-fn mask(i: usize, j: usize) -> u32
-    requires { ⌜ (i < 64) × (j < 4) ⌝ }
-    ensures { λ r. ⌜ r ≡ column j (endpointRow i) ⌝ }
+// The bits of an endpoint's word i that software writes.
+fn endpoint_w(i: usize) -> u32
+    ensures { λ r. ⌜ r ≡ endpointRow i .w ⌝ }
 {
-    TABLE[i * 4 + j]
+    match i {
+        // 04h command, status
+        1 => 0x00000547,
+        // 0Ch cache line
+        3 => 0x000000FF,
+        // 10h BAR0
+        4 => 0xFFFF0000,
+        // 3Ch interrupt line
+        15 => 0x000000FF,
+        // 44h PMCSR
+        17 => 0x00000103,
+        // 50h MSI control
+        20 => 0x00710000,
+        // 54h MSI address
+        21 => 0xFFFFFFFC,
+        // 58h MSI data
+        22 => 0x0000FFFF,
+        // 78h device control, status
+        30 => 0x000079FF,
+        // 80h link control
+        32 => 0x000000CB,
+        _ => 0,
+    }
 }
 
-// The attributes of an endpoint's word i; no bit has any above word 63.
+// The bits of word i that are cleared by writing 1: of 04h, 44h and 78h.
+fn endpoint_c(i: usize) -> u32
+    ensures { λ r. ⌜ r ≡ endpointRow i .c ⌝ }
+{
+    match i {
+        1 => 0xF9000000,
+        17 => 0x00008000,
+        30 => 0x000F0000,
+        _ => 0,
+    }
+}
+
+// The sticky bits of word i: of 44h.
+fn endpoint_s(i: usize) -> u32
+    ensures { λ r. ⌜ r ≡ endpointRow i .s ⌝ }
+{
+    match i {
+        17 => 0x00008100,
+        _ => 0,
+    }
+}
+
+// The bits of word i that are kept through FLR: of 78h and 80h.
+fn endpoint_k(i: usize) -> u32
+    ensures { λ r. ⌜ r ≡ endpointRow i .k ⌝ }
+{
+    match i {
+        30 => 0x000000E0,
+        32 => 0x000000CB,
+        _ => 0,
+    }
+}
+
+// The attributes of an endpoint's word i; a word that isn't listed has none.
 fn endpoint_row(i: usize) -> Row
     ensures { λ r. ⌜ r ≡ endpointRow i ⌝ }
 {
-    if i < 64 {
-        return Row {
-            w: mask(i, 0),
-            c: mask(i, 1),
-            s: mask(i, 2),
-            k: mask(i, 3),
-        };
-    }
     Row {
-        w: 0,
-        c: 0,
-        s: 0,
-        k: 0,
+        w: endpoint_w(i),
+        c: endpoint_c(i),
+        s: endpoint_s(i),
+        k: endpoint_k(i),
     }
 }
 
@@ -414,8 +184,24 @@ pub fn power_state(live: u32) -> u32
 pub fn lane_mask(enables: u8) -> u32
     ensures { λ r. ⌜ r ≡ laneMask enables ⌝ }
 {
-    let on = enables as u32;
-    (on & 1 | (on & 2) << 7 | (on & 4) << 14 | (on & 8) << 21) * 255
+    match enables & 15 {
+        0 => 0x00000000,
+        1 => 0x000000FF,
+        2 => 0x0000FF00,
+        3 => 0x0000FFFF,
+        4 => 0x00FF0000,
+        5 => 0x00FF00FF,
+        6 => 0x00FFFF00,
+        7 => 0x00FFFFFF,
+        8 => 0xFF000000,
+        9 => 0xFF0000FF,
+        10 => 0xFF00FF00,
+        11 => 0xFF00FFFF,
+        12 => 0xFFFF0000,
+        13 => 0xFFFF00FF,
+        14 => 0xFFFFFF00,
+        _ => 0xFFFFFFFF,
+    }
 }
 
 // The two bits of PowerState where writing `value` to word i leaves them as they were, else none.
@@ -508,6 +294,65 @@ fn reset_words(how: Reset, kind: Kind, from: usize, to: usize, live: &mut [u32],
     }
 }
 
+// The reset of word i of a slot.
+fn reset_at(how: Reset, kind: Kind, slot: usize, i: usize, live: &mut [u32], defaults: &[u32])
+    requires { ⌜ (slot * 64 + i < length (now live)) × (slot * 64 + i < length (now defaults)) ⌝ }
+    ensures { λ _. ⌜ now (live .exit)
+        ≡ set (now (live .entry)) (slot * 64 + i) (resetWord how kind i (getD (now (live .entry)) (slot * 64 + i) 0) (getD (now (defaults .entry)) (slot * 64 + i) 0)) ⌝ }
+{
+    let n = slot * 64 + i;
+    live[n] = reset_word(how, kind, i, live[n], defaults[n]);
+}
+
+// The reset of those words of a slot up to 44h that software or the hardware changes: 04h, 0Ch, 10h, 3Ch, 44h.
+fn reset_low(how: Reset, kind: Kind, slot: usize, live: &mut [u32], defaults: &[u32])
+    requires { ⌜ (slot * 64 + 64 ≤ length (now live)) × (slot * 64 + 64 ≤ length (now defaults)) ⌝ }
+    ensures { λ _. ⌜ now (live .exit)
+        ≡ resetWhere (changingBetween kind (slot * 64) (slot * 64 + 18)) (resetWord how kind) (now (live .entry)) (now (defaults .entry)) ⌝ }
+{
+    reset_at(how, kind, slot, 1, live, defaults);
+    reset_at(how, kind, slot, 3, live, defaults);
+    reset_at(how, kind, slot, 4, live, defaults);
+    reset_at(how, kind, slot, 15, live, defaults);
+    reset_at(how, kind, slot, 17, live, defaults);
+}
+
+// The same above 44h: 50h, 54h, 58h, 78h, 80h.
+fn reset_high(how: Reset, kind: Kind, slot: usize, live: &mut [u32], defaults: &[u32])
+    requires { ⌜ (slot * 64 + 64 ≤ length (now live)) × (slot * 64 + 64 ≤ length (now defaults)) ⌝ }
+    ensures { λ _. ⌜ now (live .exit)
+        ≡ resetWhere (changingBetween kind (slot * 64 + 18) (slot * 64 + 64)) (resetWord how kind) (now (live .entry)) (now (defaults .entry)) ⌝ }
+{
+    reset_at(how, kind, slot, 20, live, defaults);
+    reset_at(how, kind, slot, 21, live, defaults);
+    reset_at(how, kind, slot, 22, live, defaults);
+    reset_at(how, kind, slot, 30, live, defaults);
+    reset_at(how, kind, slot, 32, live, defaults);
+}
+
+// The reset of those words of a slot that software or the hardware changes.
+fn reset_changing(how: Reset, kind: Kind, slot: usize, live: &mut [u32], defaults: &[u32])
+    requires { ⌜ (slot * 64 + 64 ≤ length (now live)) × (slot * 64 + 64 ≤ length (now defaults)) ⌝ }
+    ensures { λ _. ⌜ now (live .exit)
+        ≡ resetWhere (changingBetween kind (slot * 64) (slot * 64 + 64)) (resetWord how kind) (now (live .entry)) (now (defaults .entry)) ⌝ }
+{
+    reset_low(how, kind, slot, live, defaults);
+    reset_high(how, kind, slot, live, defaults);
+}
+
+// The same in each of the first `slots` slots.
+fn reset_changing_all(how: Reset, kind: Kind, slots: usize, live: &mut [u32], defaults: &[u32])
+    requires { ⌜ (slots * 64 ≤ length (now live)) × (slots * 64 ≤ length (now defaults)) ⌝ }
+    ensures { λ _. ⌜ now (live .exit)
+        ≡ resetWhere (changingBetween kind 0 (slots * 64)) (resetWord how kind) (now (live .entry)) (now (defaults .entry)) ⌝ }
+{
+    let mut slot = 0;
+    while slot < slots {
+        reset_changing(how, kind, slot, live, defaults);
+        slot += 1;
+    }
+}
+
 // Where word i of a slot stands among `words` lent words; `words` if it isn't among them.
 fn word_index(slot: usize, i: usize, words: usize) -> usize
     ensures { λ r. ⌜ r ≡ min (slot * 64 + i) words ⌝ }
@@ -562,18 +407,33 @@ fn reset_slot(how: Reset, kind: Kind, slot: usize, live: &mut [u32], defaults: &
     reset_words(how, kind, from, to, live, defaults);
 }
 
+// How many slots both lists have whole.
+fn whole_slots(live: usize, defaults: usize) -> usize
+    ensures { λ r. ⌜ (r * 64 ≤ live) × (r * 64 ≤ defaults) ⌝ }
+{
+    least(live, defaults) / 64
+}
+
 // Link down, in one slot.
 pub fn link_reset_slot(kind: Kind, slot: usize, live: &mut [u32], defaults: &[u32])
     ensures { λ _. ⌜ now (live .exit) ≡ linkResetSlot kind slot (now (live .entry)) (now (defaults .entry)) ⌝ }
 {
-    reset_slot(Reset::LinkDown, kind, slot, live, defaults);
+    if slot < whole_slots(live.len(), defaults.len()) {
+        reset_changing(Reset::LinkDown, kind, slot, live, defaults);
+    } else {
+        reset_slot(Reset::LinkDown, kind, slot, live, defaults);
+    }
 }
 
 // FLR, its slot only.
 pub fn flr_reset_slot(kind: Kind, slot: usize, live: &mut [u32], defaults: &[u32])
     ensures { λ _. ⌜ now (live .exit) ≡ flrResetSlot kind slot (now (live .entry)) (now (defaults .entry)) ⌝ }
 {
-    reset_slot(Reset::Flr, kind, slot, live, defaults);
+    if slot < whole_slots(live.len(), defaults.len()) {
+        reset_changing(Reset::Flr, kind, slot, live, defaults);
+    } else {
+        reset_slot(Reset::Flr, kind, slot, live, defaults);
+    }
 }
 
 // Link down, in every slot.
@@ -581,7 +441,9 @@ pub fn link_reset_all(kind: Kind, live: &mut [u32], defaults: &[u32])
     ensures { λ _. ⌜ now (live .exit) ≡ linkResetAll kind (now (live .entry)) (now (defaults .entry)) ⌝ }
 {
     let words = live.len();
-    reset_words(Reset::LinkDown, kind, 0, words, live, defaults);
+    let slots = whole_slots(words, defaults.len());
+    reset_changing_all(Reset::LinkDown, kind, slots, live, defaults);
+    reset_words(Reset::LinkDown, kind, slots * 64, words, live, defaults);
 }
 
 // Cold reset: the live words equal the defaults.

@@ -1,0 +1,34 @@
+-- `registers::endpoint_c` meets its contract: each arm is a word of the table, and one test says that the mask of every other word is 0.
+-- Assumes nothing.
+use mathlib.Core.Path.{refl}
+use mathlib.Core.Bool.{Bool, _||_}
+use Prim.Native.Nat.{ℕ}
+use lib.Dec.{eqb}
+use borrow.Author.Tests.{ne-eqb}
+use Rattle.registers.specs.Rows.{endpointRow}
+use Rattle.registers.proofs.Rules.{none-else}
+use Rattle.registers.proofs.endpoint_c.Statement.{statement}
+use Rattle.registers.proofs.endpoint_c.Tie as tie
+
+-- the words of the arms
+abbrev arms : ℕ → Bool
+arms i = eqb i 1 || eqb i 17 || eqb i 30
+
+returns : tie.Need-returns
+unfolding endpointRow
+returns c = rw (c .match .keys1)
+
+returns-2 : tie.Need-returns-2
+unfolding endpointRow
+returns-2 c = rw (c .match .keys2)
+
+returns-3 : tie.Need-returns-3
+unfolding endpointRow
+returns-3 c = rw (c .match .keys3)
+
+returns-4 : tie.Need-returns-4
+unfolding endpointRow
+returns-4 c = let no = c .match .rest in none-else (λ r. r .c) arms tt refl (c .before .args .i) (simp (ne-eqb _ 1 (no .0 .0 .1), ne-eqb _ 17 (no .0 .1), ne-eqb _ 30 (no .1)))
+
+pub endpoint-c-spec : {M : Type 1} → statement M
+endpoint-c-spec = tie.close (tie.spec returns returns-2 returns-3 returns-4)

@@ -7,3 +7,5 @@ pub mod Messages
 pub mod Scan
 pub mod Settling
 pub mod Statuses
+pub mod Bounds
+pub mod Insertion

@@ -1,13 +1,11 @@
--- The slot that becomes Ready next, found slot by slot.
+-- The slot that becomes Ready next.
 -- Assumes nothing.
-use Prim.Native.Nat.{ℕ, suc, _+_, _≤_, _<_}
-use native.Mathlib.Numerals.{add-one}
+use Prim.Native.Nat.{ℕ, zero, suc, _+_, _<_}
 use native.Mathlib.Omega.{arith}
-use mathlib.Core.Path.{_≡_, refl, sym, ap, _∙_}
+use mathlib.Core.Path.{_≡_, refl, sym, ap, subst, _∙_}
 use mathlib.Core.Bool.{Bool, true, false, cond}
 use mathlib.Core.List.{List, [], _∷_}
-use lib.ListN.{length, getD, drop, set, drop-of-length-le}
-use lib.Seq.{drop-cons}
+use lib.ListN.{length, getD, set}
 use Rattle.times.specs.declared.Nanos.{Nanos}
 use Rattle.readiness.specs.declared.Cause.{Cause}
 use Rattle.readiness.specs.declared.Phase.{Phase}
@@ -19,7 +17,8 @@ use Rattle.readiness.specs.declared.Due.the-variants.{Nothing, At}
 use Rattle.readiness.specs.Status.{ready}
 use Rattle.readiness.specs.Root.{frsArrive}
 use Rattle.readiness.specs.Events.{Event, reached, dueEvent, comesFirst, insert, insertAll, dueFrom, due, frsOfSlot}
-use Rattle.readiness.specs.Next.{firstDue, isNothing, sooner, below}
+use Rattle.readiness.specs.Next.{firstDue, below, nextSlot}
+use Rattle.readiness.proofs.Order.{Each, Awaited, dueFrom-sound}
 use Rattle.readiness.specs.Settle.{SlotScene, slotHappens, slotSettles}
 
 -- nothing is due where there is no first
@@ -58,34 +57,6 @@ slot-readies bus entry slot x i cause t e = go (x .status .phase) e
     go Down q = let z : _≡_ {A = ℕ} 0 1 = cc in absurd (omega arith)
     go Ready q = let z : _≡_ {A = ℕ} 0 1 = cc in absurd (omega arith)
     go (Pending d u) q = at (reached (x .root .dev .clock) u) d u q
-
--- the first of all is the sooner of one slot and of the first of the later ones
-first-insert : (e : Event) (l : List Event) → firstDue (insert e l) ≡ sooner (firstDue (e ∷ [])) (firstDue l)
-unfolding insert
-first-insert e [] = refl
-first-insert e (f ∷ l) = pick (comesFirst (e .time) (f .time))
-  where
-    pick : (b : Bool) → firstDue (cond b (e ∷ f ∷ l) (f ∷ insert e l)) ≡ cond b (firstDue (e ∷ [])) (firstDue (f ∷ l))
-    pick true = refl
-    pick false = refl
-
-first-all : (clock : Nanos) (slot : ℕ) (p : Phase) (l : List Event) → firstDue (insertAll (dueEvent clock slot p) l) ≡ sooner (firstDue (dueEvent clock slot p)) (firstDue l)
-unfolding insertAll
-first-all clock slot Down l = refl
-first-all clock slot Ready l = refl
-first-all clock slot (Pending cause t) l = pick (reached clock t)
-  where
-    pick : (b : Bool) → firstDue (insertAll (cond b (record { slot = slot; cause = cause; time = t } ∷ []) []) l) ≡ sooner (firstDue (cond b (record { slot = slot; cause = cause; time = t } ∷ []) [])) (firstDue l)
-    pick true = first-insert (record { slot = slot; cause = cause; time = t }) l
-    pick false = refl
-
-pub first-cons : (clock : Nanos) (l : List Status) (d : Status) (i : ℕ) → i < length l → firstDue (dueFrom i clock (drop i l)) ≡ sooner (firstDue (dueEvent clock i (getD l i d .phase))) (firstDue (dueFrom (i + 1) clock (drop (i + 1) l)))
-unfolding dueFrom
-first-cons clock l d i h = rw (add-one, drop-cons l i d) (first-all clock i (getD l i d .phase) (dueFrom (suc i) clock (drop (suc i) l)))
-
-pub first-end : (clock : Nanos) (l : List Status) (i : ℕ) → length l ≤ i → firstDue (dueFrom i clock (drop i l)) ≡ Nothing
-unfolding dueFrom
-first-end clock l i h = rw (drop-of-length-le l h)
 
 -- the first of the events that are due, taken: the slot is there, and once it is Ready the others are due
 pub record Taken (j : ℕ) (clock : Nanos) (l : List Status) (e : Event) (es : List Event) : Type 0 where
@@ -180,25 +151,31 @@ first-below clock l = go (firstDue (due clock l)) refl
     go Nothing q = tt
     go (At slot cause t) q = found clock l slot cause t q .within
 
--- a slot that is due: not nothing
-pub some-first : (slot : ℕ) (cause : Cause) (t : Nanos) (b : Due) → isNothing (sooner (At slot cause t) b) ≡ false
-some-first slot cause t Nothing = refl
-some-first slot cause t (At j d u) = pick (comesFirst t u)
+getD-any : (l : List Status) (i : ℕ) (d e : Status) → i < length l → getD l i d ≡ getD l i e
+getD-any [] i d e h = absurd (omega arith)
+getD-any (s ∷ l) zero d e h = refl
+getD-any (s ∷ l) (suc i) d e h = getD-any l i d e (omega arith)
+
+pub record Next (clock : Nanos) (l : List Status) (slot : ℕ) (d : Status) : Type 0 where
+  pub cause : Cause
+  pub time : Nanos
+  pub first : firstDue (due clock l) ≡ At slot cause time
+  pub pends : getD l slot d .phase ≡ Pending cause time
+
+pub some-next : (clock : Nanos) (l : List Status) (slot : ℕ) (d : Status) → length l ≡ 32 → slot ≡ nextSlot (firstDue (due clock l)) → slot < 32 → Next clock l slot d
+some-next clock l slot d n e h = go (due clock l) refl e
   where
-    pick : (q : Bool) → isNothing (cond q (At slot cause t) (At j d u)) ≡ false
-    pick true = refl
-    pick false = refl
-
-pub nothing-first : (d : Due) → isNothing d ≡ true → d ≡ Nothing
-nothing-first Nothing e = refl
-nothing-first (At slot cause t) e = let z : _≡_ {A = ℕ} 0 1 = cc in absurd (omega arith)
-
--- a scan passes over slots that aren't due, and stops at one that is
-module _ (clock : Nanos) (l : List Status) (d : Status) (i : ℕ) (h : i < length l) where
-  pub passes : firstDue (dueEvent clock i (getD l i d .phase)) ≡ Nothing → firstDue (dueFrom (i + 1) clock (drop (i + 1) l)) ≡ firstDue (dueFrom i clock (drop i l))
-  passes e = sym (first-cons clock l d i h ∙ ap (λ (v : Due). sooner v (firstDue (dueFrom (i + 1) clock (drop (i + 1) l)))) e)
-
-  pub meets : (slot : ℕ) (cause : Cause) (t : Nanos) → firstDue (dueEvent clock i (getD l i d .phase)) ≡ At slot cause t → isNothing (firstDue (dueFrom i clock (drop i l))) ≡ false
-  meets slot cause t e =
-      let rest = firstDue (dueFrom (i + 1) clock (drop (i + 1) l)) in
-      ap isNothing (first-cons clock l d i h ∙ ap (λ (v : Due). sooner v rest) e) ∙ some-first slot cause t rest
+    go : (es : List Event) → due clock l ≡ es → slot ≡ nextSlot (firstDue es) → Next clock l slot d
+    go [] p q = absurd (omega arith)
+    go (f ∷ es) p q =
+        let a : Awaited 0 clock l f = first-awaited p in
+        let k : a .at ≡ slot = omega (arith, a .slot) in
+        record {
+          cause = f .cause;
+          time = f .time;
+          first = ap firstDue p ∙ ap (λ (j : ℕ). At j (f .cause) (f .time)) (sym q);
+          pends = ap (λ (s : Status). s .phase) (getD-any l slot d ready (omega arith)) ∙ ap (λ (j : ℕ). getD l j ready .phase) (sym k) ∙ a .pends;
+        }
+      where
+        first-awaited : due clock l ≡ f ∷ es → Awaited 0 clock l f
+        first-awaited p = (subst (Each (Awaited 0 clock l)) p (dueFrom-sound 0 clock l)) .0

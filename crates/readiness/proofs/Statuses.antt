@@ -7,8 +7,8 @@ use mathlib.Core.Path.{_≡_, refl, sym, ap, ap₂, _∙_}
 use mathlib.Core.Bool.{Bool, true, false, _&&_, cond}
 use mathlib.Core.List.{List, [], _∷_}
 use lib.Dec.{ltb}
-use lib.ListN.{length, getD, drop, set, drop-of-length-le}
-use lib.Seq.{drop-cons}
+use lib.ListN.{length, getD, take, drop, set, length-take, drop-of-length-le}
+use lib.Seq.{drop-cons, getD-take}
 use borrow.Author.Tests.{lt-ltb, le-ltb, ltb-true, ltb-false}
 use Rattle.readiness.specs.declared.Status.{Status}
 use Rattle.readiness.specs.Status.{isReady, allReady, eachFrom}
@@ -20,6 +20,15 @@ ready-cons l d i b h e = rw (add-one, drop-cons l i d, e)
 pub ready-end : (l : List Status) (i : ℕ) → length l ≤ i → allReady (drop i l) ≡ true
 unfolding allReady
 ready-end l i h = rw (drop-of-length-le l h)
+
+-- the same of the first n slots
+pub ready-below : (l : List Status) (d : Status) (n i : ℕ) (b : Bool) → n ≤ length l → i < n → isReady (getD l i d) ≡ b → allReady (drop i (take n l)) ≡ (b && allReady (drop (i + 1) (take n l)))
+ready-below l d n i b h k e =
+    let m : length (take n l) ≡ n = simp length-take (omega arith) in
+    ready-cons (take n l) d i b (omega arith) (ap isReady (getD-take n l i d k) ∙ e)
+
+pub ready-past : (l : List Status) (n i : ℕ) → n ≤ i → allReady (drop i (take n l)) ≡ true
+ready-past l n i h = ready-end (take n l) i (simp length-take (omega arith))
 
 module _ (f : ℕ → Status) where
   -- where no slot is the card's, nothing changes

@@ -2,4 +2,6 @@ pub mod Status
 pub mod Root
 pub mod Events
 pub mod Next
+pub mod Prepared
 pub mod Settle
+pub mod Earliest

@@ -3,6 +3,10 @@
 use Prim.Native.Nat.{ℕ, _<_}
 use mathlib.Core.Bool.{Bool, true, false, cond}
 use mathlib.Core.List.{List, [], _∷_}
+use lib.Dec.{leb}
+use Rattle.times.specs.declared.Nanos.{Nanos}
+use Rattle.readiness.specs.declared.Phase.{Phase}
+use Rattle.readiness.specs.declared.Phase.the-variants.{Down, Pending, Ready}
 use Rattle.readiness.specs.declared.Due.{Due}
 use Rattle.readiness.specs.declared.Due.the-variants.{Nothing, At}
 use Rattle.readiness.specs.Events.{Event, comesFirst}
@@ -26,3 +30,14 @@ sooner (At i c t) (At j d u) = cond (comesFirst t u) (At i c t) (At j d u)
 abbrev pub below : ℕ → Due → Type 0
 below n Nothing = Unit {0}
 below n (At slot cause t) = slot < n
+
+-- the slot that becomes Ready next, and 32 where none does
+abbrev pub nextSlot : Due → ℕ
+nextSlot Nothing = 32
+nextSlot (At slot cause t) = slot
+
+-- the slot's ready time is at or before a moment
+abbrev pub dueBy : Nanos → Phase → Bool
+dueBy moment Down = false
+dueBy moment Ready = false
+dueBy moment (Pending cause t) = leb (t .0) (moment .0)

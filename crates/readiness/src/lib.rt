@@ -2,15 +2,18 @@
 ghost use mathlib.Core.Path.{_≡_};
 ghost use mathlib.Core.Bool.{not, _&&_, _||_, cond};
 ghost use mathlib.Core.List.{List, [], _∷_};
-ghost use Prim.Native.Nat.{ℕ, _<_};
+ghost use Prim.Native.Nat.{ℕ, _+_, _≤_, _<_};
 ghost use lib.Dec.{eqb, ltb};
+ghost use lib.ListN.{take};
 ghost use Rattle.times.specs.Codes.{nanosOf};
 ghost use Rattle.times.specs.Moments.{sumOf};
 ghost use Rattle.readiness.specs.Status.{isReady, allReady, pending, flrInProgress, startedByLinkUp, stoppedByReset, startedByFlr, startedByD3hot, afterLinkUp, afterReset, afterLinkDown, afterColdReset};
 ghost use Rattle.readiness.specs.Root.{root, frsArrive, drsSet, drsArrives, nothingOwed};
-ghost use Rattle.readiness.specs.Events.{dueEvent, due, frsOfSlot};
-ghost use Rattle.readiness.specs.Next.{firstDue, isNothing, sooner, below};
-ghost use Rattle.readiness.specs.Settle.{scene, happens, happenAll, tells, settles, advances, slotScene, slotSettles};
+ghost use Rattle.readiness.specs.Events.{Event, dueEvent, insert, due, frsOfSlot};
+ghost use Rattle.readiness.specs.Next.{firstDue, dueBy};
+ghost use Rattle.readiness.specs.Prepared.{downFrom, numbers, slotOf, Prepared};
+ghost use Rattle.readiness.specs.Earliest.{readyTime, earliestReady};
+ghost use Rattle.readiness.specs.Settle.{scene, settles, advances, slotScene, slotSettles};
 use frs_queue::Frs;
 use frs_queue::Queue;
 use frs_queue::Tally;
@@ -83,6 +86,12 @@ pub struct Settled {
 pub struct SlotSettled {
     pub status: Status,
     pub port: RootPort,
+}
+
+// Slots in an order that is read from the last of count places down.
+struct InOrder {
+    slots: [usize; 32],
+    count: usize,
 }
 
 // The slot that becomes Ready next, with its cause and its ready time.
@@ -354,47 +363,85 @@ fn due_of(clock: Nanos, slot: usize, status: Status) -> Due
     }
 }
 
-// The one with the earlier ready time, and `a` where they are equal.
-fn earlier(a: Due, b: Due) -> Due
-    ensures { λ r. ⌜ r ≡ sooner a b ⌝ }
+// Whether the slot's ready time is at or before a moment.
+fn due_by(moment: Nanos, status: Status) -> bool
+    ensures { λ r. ⌜ r ≡ dueBy moment (status .phase) ⌝ }
 {
-    match a {
-        Due::Nothing => b,
-        Due::At(_, _, t) => match b {
-            Due::Nothing => a,
-            Due::At(_, _, u) => { if times::by_then(t, u) { a } else { b } }
-        },
+    let phase = status.phase;
+    match phase {
+        Phase::Down => false,
+        Phase::Ready => false,
+        Phase::Pending(_, ready) => times::by_then(ready, moment),
     }
 }
 
-// The first of the slots whose ready time is at or before the clock: by ready time, ties by slot number.
-fn first_due(clock: Nanos, statuses: [Status; 32]) -> Due
-    ensures { λ r. ⌜ r ≡ firstDue (due clock statuses) ⌝ }
-    ensures { λ r. ⌜ below 32 r ⌝ }
+// The ready time of a Pending slot; of another slot the greatest moment there is.
+fn ready_time(status: Status) -> Nanos
+    ensures { λ r. ⌜ r ≡ readyTime (status .phase) ⌝ }
 {
-    let mut best = Due::Nothing;
+    let phase = status.phase;
+    match phase {
+        Phase::Down => times::nanos_of(18446744073709551615),
+        Phase::Ready => times::nanos_of(18446744073709551615),
+        Phase::Pending(_, ready) => ready,
+    }
+}
+
+// A slot goes among the first n of an order that is read from its last place down: behind those with an earlier ready time.
+fn put_in(times: &mut [u64; 32], slots: &mut [usize; 32], n: usize, time: u64, slot: usize)
+    requires { ⌜ n < 32 ⌝ }
+    ensures { λ r. ⌜ ((cause : Cause) (es : List Event) → Prepared (now (times .entry)) (now (slots .entry)) n es → Prepared (now (times .exit)) (now (slots .exit)) (n + 1) (insert (record { slot = slot; cause = cause; time = record { 0 = time } }) es)) ⌝ }
+{
+    let mut j = n;
+    while 0 < j {
+        let i = j - 1;
+        let other = times[i];
+        if time <= other {
+            break;
+        }
+        times[j] = other;
+        slots[j] = slots[i];
+        j = i;
+    }
+    times[j] = time;
+    slots[j] = slot;
+}
+
+// The slots whose ready time is at or before the clock, in the order in which they become Ready: from the last place down.
+fn prepare(clock: Nanos, statuses: [Status; 32]) -> InOrder
+    ensures { λ r. ⌜ downFrom (r .slots) (r .count) ≡ numbers slotOf (due clock statuses) ⌝ }
+{
+    let mut times: [u64; 32] = [0; 32];
+    let mut slots: [usize; 32] = [0; 32];
+    let mut n: usize = 0;
     let mut i: usize = 32;
     while 0 < i {
         i = i - 1;
         let s = statuses[i];
-        best = earlier(due_of(clock, i, s), best);
+        if due_by(clock, s) {
+            let time = times::nanos_number(ready_time(s));
+            put_in(&mut times, &mut slots, n, time, i);
+            n += 1;
+        }
     }
-    best
+    InOrder {
+        slots: slots,
+        count: n,
+    }
 }
 
-// Whether no slot's ready time is at or before the clock.
-fn none_due(clock: Nanos, statuses: [Status; 32]) -> bool
-    ensures { λ r. ⌜ r ≡ isNothing (firstDue (due clock statuses)) ⌝ }
+// The earliest ready time of all Pending slots; the greatest moment there is where no slot is Pending.
+pub fn earliest_ready(statuses: [Status; 32]) -> Nanos
+    ensures { λ r. ⌜ r ≡ earliestReady statuses ⌝ }
 {
-    let mut i: usize = 0;
-    while i < 32 {
+    let mut best = times::nanos_of(18446744073709551615);
+    let mut i: usize = 32;
+    while 0 < i {
+        i = i - 1;
         let s = statuses[i];
-        let Due::Nothing = due_of(clock, i, s) else {
-            return false;
-        };
-        i += 1;
+        best = times::least(ready_time(s), best);
     }
-    true
+    best
 }
 
 // The FRS of a slot that becomes Ready arrives, if its cause was FLR or D3hot and the slot sends FRS.
@@ -451,61 +498,63 @@ pub fn settle_slot(
     }
 }
 
-// A slot becomes Ready, and its FRS, if any, arrives.
-fn happen(setup: Setup, slot: usize, cause: Cause, current: Settled, cells: &mut [u32]) -> Settled
+// The FRS of a Pending slot that becomes Ready arrives, if it sends one.
+fn status_frs_arrives(
+    bus: u8,
+    entry: Slot,
+    slot: usize,
+    status: Status,
+    port: RootPort,
+    cells: &mut [u32],
+) -> RootPort
     requires { ⌜ slot < 32 ⌝ }
-    ensures { λ r. ⌜ ((time : Nanos) → scene (now (cells .exit)) r ≡ happens setup (record { slot = slot; cause = cause; time = time }) (scene (now (cells .entry)) current)) ⌝ }
+    ensures { λ r. ⌜ ((cause : Cause) (time : Nanos) → status .phase ≡ Phase.Pending cause time → root (now (cells .exit)) r ≡ frsArrive (frsOfSlot bus entry slot cause) (root (now (cells .entry)) port)) ⌝ }
 {
-    let mut statuses = current.statuses;
-    let port = current.port;
-    let entry = setup.entries[slot];
-    statuses[slot] = Status {
-        phase: Phase::Ready,
-    };
-    let p = slot_frs_arrives(setup.bus, entry, slot, cause, port, cells);
-    Settled {
-        statuses: statuses,
-        port: p,
+    let phase = status.phase;
+    match phase {
+        Phase::Down => port,
+        Phase::Ready => port,
+        Phase::Pending(cause, _) => slot_frs_arrives(bus, entry, slot, cause, port, cells),
     }
 }
 
-// The slots whose ready time is at or before the clock become Ready, one after the other.
-fn settle_slots(setup: Setup, current: Settled, cells: &mut [u32]) -> Settled
-    ensures { λ r. ⌜ scene (now (cells .exit)) r ≡ happenAll setup (due (current .port .dev .clock) (current .statuses)) (scene (now (cells .entry)) current) ⌝ }
+// Whether the first n slots are Ready.
+fn ready_below(statuses: [Status; 32], n: usize) -> bool
+    requires { ⌜ n ≤ 32 ⌝ }
+    ensures { λ r. ⌜ r ≡ allReady (take n statuses) ⌝ }
 {
-    let clock = current.port.dev.clock;
-    let mut x = current;
-    loop {
-        let statuses = x.statuses;
-        let Due::At(slot, cause, _) = first_due(clock, statuses) else {
-            return x;
-        };
-        x = happen(setup, slot, cause, x, &mut *cells);
+    let mut i: usize = 0;
+    while i < n {
+        let s = statuses[i];
+        if is_ready(s) {
+            i += 1;
+        } else {
+            return false;
+        }
     }
+    true
 }
 
-// Whether a DRS is owed and all slots are Ready.
-fn drs_is_due(owed: bool, statuses: [Status; 32]) -> bool
-    ensures { λ r. ⌜ r ≡ (owed && allReady statuses) ⌝ }
+// Whether a DRS is owed and the first n slots are Ready.
+fn drs_is_due(owed: bool, statuses: [Status; 32], n: usize) -> bool
+    requires { ⌜ n ≤ 32 ⌝ }
+    ensures { λ r. ⌜ r ≡ (owed && allReady (take n statuses)) ⌝ }
 {
-    if owed { all_ready(statuses) } else { false }
+    if owed {
+        ready_below(statuses, n)
+    } else {
+        false
+    }
 }
 
 // The DRS is received if it is due.
-fn tell(setup: Setup, current: Settled, cells: &mut [u32]) -> Settled
-    ensures { λ r. ⌜ scene (now (cells .exit)) r ≡ tells setup (scene (now (cells .entry)) current) ⌝ }
+fn tell(is_due: bool, port: RootPort, cells: &mut [u32], port_id: u16) -> RootPort
+    ensures { λ r. ⌜ root (now (cells .exit)) r ≡ cond «is_due» (nothingOwed (drsArrives «port_id» (root (now (cells .entry)) port))) (root (now (cells .entry)) port) ⌝ }
 {
-    let statuses = current.statuses;
-    if drs_is_due(current.port.dev.owed, statuses) {
-        let port = current.port;
-        let told = drs_told(port, cells, setup.port_id);
-        Settled {
-            statuses: statuses,
-            port: told,
-        }
-    } else {
-        current
+    if is_due {
+        return drs_told(port, cells, port_id);
     }
+    port
 }
 
 // What is due at the clock happens: slots become Ready in order, then the DRS is received if it is due.
@@ -513,15 +562,26 @@ pub fn settle(setup: Setup, statuses: [Status; 32], port: RootPort, cells: &mut 
     ensures { λ r. ⌜ scene (now (cells .exit)) r ≡ settles setup (record { statuses = statuses; root = root (now (cells .entry)) port }) ⌝ }
 {
     let clock = port.dev.clock;
-    let current = Settled {
-        statuses: statuses,
-        port: port,
-    };
-    if none_due(clock, statuses) {
-        return tell(setup, current, cells);
+    let order = prepare(clock, statuses);
+    let mut left = order.count;
+    let mut after = statuses;
+    let mut p = port;
+    while 0 < left {
+        left = left - 1;
+        let slot = order.slots[left];
+        let s = after[slot];
+        let entry = setup.entries[slot];
+        after[slot] = Status {
+            phase: Phase::Ready,
+        };
+        p = status_frs_arrives(setup.bus, entry, slot, s, p, &mut *cells);
     }
-    let x = settle_slots(setup, current, &mut *cells);
-    tell(setup, x, cells)
+    let is_due = drs_is_due(p.dev.owed, after, 32);
+    let told = tell(is_due, p, cells, setup.port_id);
+    Settled {
+        statuses: after,
+        port: told,
+    }
 }
 
 // The clock advances, and what becomes due on the way happens.

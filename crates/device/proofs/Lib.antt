@@ -1,3 +1,4 @@
 pub mod Choices
 pub mod Answers
 pub mod Every
+pub mod Resting

@@ -1,8 +1,15 @@
 // Records that touch every slot: advance clock, link up, link down, cold reset.
 ghost use mathlib.Core.Path.{_≡_};
-ghost use mathlib.Core.List.{List};
+ghost use mathlib.Core.Bool.{false, _&&_};
+ghost use mathlib.Core.List.{List, []};
 ghost use Prim.Native.Nat.{ℕ};
+ghost use Rattle.times.specs.Moments.{sumOf};
 ghost use Rattle.frs_queue.specs.Queue.{noTally};
+ghost use Rattle.readiness.specs.declared.Status.{Status};
+ghost use Rattle.readiness.specs.declared.Setup.{Setup};
+ghost use Rattle.readiness.specs.Status.{allReady};
+ghost use Rattle.readiness.specs.Events.{due};
+ghost use Rattle.records.specs.declared.Record.the-variants as variants;
 ghost use Rattle.records.specs.State.{State, state, cardKind};
 ghost use Rattle.records.specs.Answer.{reply, does, answered};
 ghost use Rattle.records.specs.CardRecords.{withClock, advanceEffect, linkUpEffect, linkDownEffect, coldResetEffect};
@@ -14,6 +21,7 @@ use readiness::Setup;
 use readiness::Status;
 use records::CardDone;
 use records::Completion;
+use records::PortDone;
 use records::Record;
 use records::Reply;
 use registers::Kind;
@@ -84,6 +92,23 @@ fn advance(setup: Setup, dev: Dev, statuses: [Status; 32], cells: &mut [u32], by
         return settled(setup, with_clock(dev, clock), statuses, cells);
     }
     refused(dev, statuses, Completion::ClockEnd)
+}
+
+// Advance clock where no slot becomes Ready and no DRS is to be told: the clock alone moves.
+pub fn advance_alone(dev: Dev, by: Nanos) -> PortDone
+    ensures { λ r. ⌜ ((setup : Setup) (defaults : List ℕ) (statuses : List Status) (live cells : List ℕ) → due (sumOf (dev .clock) by) statuses ≡ [] → (dev .owed && allReady statuses) ≡ false → cardRun setup defaults (variants.Advance by) (state dev statuses live cells) ≡ record { after = state (r .dev) statuses live cells; reply = r .reply }) ⌝ }
+{
+    let clock = times::sum(dev.clock, by);
+    if times::nanos_number(clock) <= CLOCK_END {
+        return PortDone {
+            dev: with_clock(dev, clock),
+            reply: plain_reply(Completion::Done, 0),
+        };
+    }
+    PortDone {
+        dev: dev,
+        reply: plain_reply(Completion::ClockEnd, 0),
+    }
 }
 
 // Link up: every slot Pending, a DRS is owed; 23 when up.

@@ -2,7 +2,6 @@
 pub mod decoding; // a record from its bytes
 pub mod answering; // an answer's bytes
 pub mod routing; // where a configuration request goes
-pub mod parts; // the part of the state that a record touches
 pub mod requests; // records that touch one slot
 pub mod port; // records that touch the root port alone
 pub mod card; // records that touch every slot

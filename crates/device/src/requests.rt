@@ -7,12 +7,13 @@ ghost use lib.ListN.{length};
 ghost use Rattle.bits.specs.Bits.{bit};
 ghost use Rattle.registers.specs.Functions.{linkResetSlot};
 ghost use Rattle.readiness.specs.declared.Dev.{Dev};
+ghost use Rattle.readiness.specs.declared.Slot.{Slot};
 ghost use Rattle.frs_queue.specs.Queue.{noTally};
+ghost use Rattle.records.specs.declared.Record.the-variants as variants;
 ghost use Rattle.records.specs.State.{Seat, seat, kindOf};
 ghost use Rattle.records.specs.Answer.{does};
-ghost use Rattle.records.specs.Requests.{startsD3hot, writeSeat, readEffect, writeEffect, hardwareEffect};
-ghost use Rattle.records.specs.Parts.{slotEffect, slotAnswered, slotRun, slotRan};
-ghost use Rattle.records.specs.Steps.{stepped, liveAfter};
+ghost use Rattle.records.specs.Requests.{startsD3hot, writeSeat};
+ghost use Rattle.records.specs.Parts.{slotAnswered, slotRun, slotRan};
 use crate::answering::plain_reply;
 use crate::port::root_port;
 use crate::routing::is_access;
@@ -24,11 +25,9 @@ use readiness::Setup;
 use readiness::Slot;
 use readiness::Status;
 use records::Completion;
-use records::Record;
 use records::Reply;
 use records::Request;
 use records::SlotDone;
-use records::SlotStep;
 use registers::Kind;
 
 // What a slot holds.
@@ -36,25 +35,6 @@ pub fn kind_of(setup: Setup, slot: usize) -> Kind
     ensures { λ r. ⌜ r ≡ kindOf setup slot ⌝ }
 {
     Kind::Endpoint
-}
-
-// Configuration read, by its route.
-fn read(slots: usize, kind: Kind, dev: Dev, status: Status, live: &[u32], q: Request) -> SlotStep
-    requires { ⌜ 64 * slots ≤ length (now live) ⌝ }
-    ensures { λ r. ⌜ ((cells : List ℕ) → stepped r dev (now (live .entry)) cells ≡ readEffect slots kind q (seat dev status (now (live .entry)) cells)) ⌝ }
-{
-    let route = route_of(slots, dev, status, true, q);
-    if is_access(route) {
-        let slot = q.slot;
-        let word = q.word;
-        let at = slot * 64 + word;
-        let data = registers::read_word(kind, word, live[at], q.enables);
-        return SlotStep::Does(status, data);
-    }
-    SlotStep::Refused(
-        route_completion(route),
-        refused_data(true, q.enables, route),
-    )
 }
 
 // A write that takes PowerState from 3 to 0.
@@ -107,102 +87,6 @@ fn write_ready(
     status
 }
 
-// Configuration write, by its route.
-fn write(
-    slots: usize,
-    kind: Kind,
-    entry: Slot,
-    dev: Dev,
-    status: Status,
-    live: &mut [u32],
-    defaults: &[u32],
-    q: Request,
-    value: u32,
-) -> SlotStep
-    requires { ⌜ (64 * slots ≤ length (now live)) × (64 * slots ≤ length (now defaults)) ⌝ }
-    ensures { λ r. ⌜ ((cells : List ℕ) → stepped r dev (now (live .exit)) cells ≡ writeEffect slots kind entry (now (defaults .entry)) q value (seat dev status (now (live .entry)) cells)) ⌝ }
-    ensures { λ r. ⌜ ((cells : List ℕ) → now (live .exit) ≡ liveAfter (now (live .entry)) (writeEffect slots kind entry (now (defaults .entry)) q value (seat dev status (now (live .entry)) cells))) ⌝ }
-{
-    let route = route_of(slots, dev, status, false, q);
-    if is_access(route) {
-        let after = write_ready(kind, entry, dev, status, live, defaults, q, value);
-        return SlotStep::Does(after, 0);
-    }
-    SlotStep::Refused(
-        route_completion(route),
-        refused_data(false, q.enables, route),
-    )
-}
-
-// Hardware sets those mask bits that lie in C. Order: 20, 21, 23.
-fn hardware_set(
-    slots: usize,
-    kind: Kind,
-    status: Status,
-    live: &mut [u32],
-    slot: usize,
-    word: usize,
-    mask: u32,
-) -> SlotStep
-    requires { ⌜ 64 * slots ≤ length (now live) ⌝ }
-    ensures { λ r. ⌜ ((dev : Dev) (cells : List ℕ) → stepped r dev (now (live .exit)) cells ≡ hardwareEffect slots kind slot word mask (seat dev status (now (live .entry)) cells)) ⌝ }
-    ensures { λ r. ⌜ ((dev : Dev) (cells : List ℕ) → now (live .exit) ≡ liveAfter (now (live .entry)) (hardwareEffect slots kind slot word mask (seat dev status (now (live .entry)) cells))) ⌝ }
-{
-    if slots <= slot {
-        return SlotStep::Refused(Completion::NoSlot, 0);
-    }
-    if 63 < word {
-        return SlotStep::Refused(Completion::NoWord, 0);
-    }
-    if readiness::is_ready(status) {
-        let at = slot * 64 + word;
-        live[at] = registers::hardware_set(kind, word, live[at], mask);
-        return SlotStep::Does(status, 0);
-    }
-    SlotStep::Refused(Completion::WrongState, 0)
-}
-
-// What a record does to a slot; other records do nothing there.
-fn slot_step(
-    slots: usize,
-    kind: Kind,
-    entry: Slot,
-    dev: Dev,
-    status: Status,
-    live: &mut [u32],
-    defaults: &[u32],
-    record: Record,
-) -> SlotStep
-    requires { ⌜ (64 * slots ≤ length (now live)) × (64 * slots ≤ length (now defaults)) ⌝ }
-    ensures { λ r. ⌜ ((cells : List ℕ) → stepped r dev (now (live .exit)) cells ≡ slotEffect slots kind entry (now (defaults .entry)) «record» (seat dev status (now (live .entry)) cells)) ⌝ }
-    ensures { λ r. ⌜ ((cells : List ℕ) → now (live .exit) ≡ liveAfter (now (live .entry)) (slotEffect slots kind entry (now (defaults .entry)) «record» (seat dev status (now (live .entry)) cells))) ⌝ }
-{
-    match record {
-        Record::Read(q) => read(slots, kind, dev, status, live, q),
-        Record::Write(q, value) => write(slots, kind, entry, dev, status, live, defaults, q, value),
-        Record::HardwareSet(slot, word, mask) => hardware_set(
-            slots,
-            kind,
-            status,
-            live,
-            slot,
-            word,
-            mask,
-        ),
-        Record::Advance(_) => SlotStep::Does(status, 0),
-        Record::Message(_) => SlotStep::Does(status, 0),
-        Record::LinkUp => SlotStep::Does(status, 0),
-        Record::LinkDown => SlotStep::Does(status, 0),
-        Record::ColdReset => SlotStep::Does(status, 0),
-        Record::ReadQueue => SlotStep::Does(status, 0),
-        Record::RemoveOldest => SlotStep::Does(status, 0),
-        Record::ClearBits(_) => SlotStep::Does(status, 0),
-        Record::Control(_) => SlotStep::Does(status, 0),
-        Record::ReadBits => SlotStep::Does(status, 0),
-        Record::NoKind => SlotStep::Does(status, 0),
-    }
-}
-
 // Before the answer to a record that is done, the slot becomes Ready if its ready time is at or before the clock.
 fn settled(
     bus: u8,
@@ -232,31 +116,56 @@ fn settled(
     }
 }
 
-// The answer to a record that touches one slot.
-fn answered(
+// A configuration read runs: it changes nothing.
+pub fn run_read(
+    slots: usize,
+    kind: Kind,
+    dev: Dev,
+    status: Status,
+    live: &[u32],
+    q: Request,
+) -> Reply
+    requires { ⌜ 64 * slots ≤ length (now live) ⌝ }
+    ensures { λ r. ⌜ ((bus : ℕ) (entry : Slot) (defaults : List ℕ) (slot : ℕ) (cells : List ℕ) → slotRun slots kind bus entry defaults slot (variants.Read q) (seat dev status (now (live .entry)) cells) ≡ record { after = seat dev status (now (live .entry)) cells; reply = r }) ⌝ }
+{
+    let route = route_of(slots, dev, status, true, q);
+    if is_access(route) {
+        let slot = q.slot;
+        let word = q.word;
+        let at = slot * 64 + word;
+        let data = registers::read_word(kind, word, live[at], q.enables);
+        return plain_reply(Completion::Done, data);
+    }
+    plain_reply(
+        route_completion(route),
+        refused_data(true, q.enables, route),
+    )
+}
+
+// The answer to a write that is done: a slot that is still Ready is not due.
+fn finished(
     bus: u8,
     entry: Slot,
     slot: usize,
     dev: Dev,
     status: Status,
     cells: &mut [u32],
-    step: SlotStep,
 ) -> SlotDone
     requires { ⌜ slot < 32 ⌝ }
-    ensures { λ r. ⌜ ((live : List ℕ) → slotRan r live (now (cells .exit)) ≡ slotAnswered bus entry slot (seat dev status live (now (cells .entry))) (stepped step dev live (now (cells .entry)))) ⌝ }
+    ensures { λ r. ⌜ ((before : Seat) (live : List ℕ) → slotRan r live (now (cells .exit)) ≡ slotAnswered bus entry slot before (does (seat dev status live (now (cells .entry))) noTally 0)) ⌝ }
 {
-    match step {
-        SlotStep::Refused(completion, data) => SlotDone {
+    if readiness::is_ready(status) {
+        return SlotDone {
             dev: dev,
             status: status,
-            reply: plain_reply(completion, data),
-        },
-        SlotStep::Does(after, data) => settled(bus, entry, slot, dev, after, cells, data),
+            reply: plain_reply(Completion::Done, 0),
+        };
     }
+    settled(bus, entry, slot, dev, status, cells, 0)
 }
 
-// A record that touches one slot runs.
-pub fn run_slot(
+// A configuration write runs.
+pub fn run_write(
     slots: usize,
     kind: Kind,
     bus: u8,
@@ -267,11 +176,47 @@ pub fn run_slot(
     live: &mut [u32],
     defaults: &[u32],
     cells: &mut [u32],
-    record: Record,
+    q: Request,
+    value: u32,
 ) -> SlotDone
     requires { ⌜ (slot < 32) × (64 * slots ≤ length (now live)) × (64 * slots ≤ length (now defaults)) ⌝ }
-    ensures { λ r. ⌜ slotRan r (now (live .exit)) (now (cells .exit)) ≡ slotRun slots kind bus entry (now (defaults .entry)) slot «record» (seat dev status (now (live .entry)) (now (cells .entry))) ⌝ }
+    ensures { λ r. ⌜ slotRan r (now (live .exit)) (now (cells .exit)) ≡ slotRun slots kind bus entry (now (defaults .entry)) slot (variants.Write q value) (seat dev status (now (live .entry)) (now (cells .entry))) ⌝ }
 {
-    let step = slot_step(slots, kind, entry, dev, status, live, defaults, record);
-    answered(bus, entry, slot, dev, status, cells, step)
+    let route = route_of(slots, dev, status, false, q);
+    if is_access(route) {
+        let after = write_ready(kind, entry, dev, status, live, defaults, q, value);
+        return finished(bus, entry, slot, dev, after, cells);
+    }
+    SlotDone {
+        dev: dev,
+        status: status,
+        reply: plain_reply(route_completion(route), 0),
+    }
+}
+
+// Hardware sets bits of a slot's word: no more than the word changes.
+pub fn run_hardware(
+    slots: usize,
+    kind: Kind,
+    status: Status,
+    live: &mut [u32],
+    slot: usize,
+    word: usize,
+    mask: u32,
+) -> Reply
+    requires { ⌜ 64 * slots ≤ length (now live) ⌝ }
+    ensures { λ r. ⌜ ((dev : Dev) (bus : ℕ) (entry : Slot) (defaults : List ℕ) (at : ℕ) (cells : List ℕ) → slotRun slots kind bus entry defaults at (variants.HardwareSet slot word mask) (seat dev status (now (live .entry)) cells) ≡ record { after = seat dev status (now (live .exit)) cells; reply = r }) ⌝ }
+{
+    if slots <= slot {
+        return plain_reply(Completion::NoSlot, 0);
+    }
+    if 63 < word {
+        return plain_reply(Completion::NoWord, 0);
+    }
+    if readiness::is_ready(status) {
+        let at = slot * 64 + word;
+        live[at] = registers::hardware_set(kind, word, live[at], mask);
+        return plain_reply(Completion::Done, 0);
+    }
+    plain_reply(Completion::WrongState, 0)
 }

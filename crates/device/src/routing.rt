@@ -53,13 +53,18 @@ fn pending_route(clock: Nanos, cause: Cause, ready: Nanos, crs: Crs) -> Route
     }
 }
 
-// By the slot's status, with the link up.
-fn phase_route(clock: Nanos, phase: Phase, crs: Crs) -> Route
-    ensures { λ r. ⌜ r ≡ phaseRoute clock phase crs ⌝ }
+// By the slot's status, with the link up. How CRS is shown is asked for a slot alone that is starting.
+fn phase_route(clock: Nanos, phase: Phase, visibility: bool, is_read: bool, q: Request) -> Route
+    ensures { λ r. ⌜ r ≡ phaseRoute clock phase (crsOf visibility «is_read» q) ⌝ }
 {
     match phase {
         Phase::Down => Route::LinkDown,
-        Phase::Pending(cause, ready) => pending_route(clock, cause, ready, crs),
+        Phase::Pending(cause, ready) => pending_route(
+            clock,
+            cause,
+            ready,
+            crs_of(visibility, is_read, q),
+        ),
         Phase::Ready => Route::Access,
     }
 }
@@ -82,8 +87,7 @@ pub fn route_of(slots: usize, dev: Dev, status: Status, is_read: bool, q: Reques
         let phase = status.phase;
         let control = dev.control;
         let clock = dev.clock;
-        let crs = crs_of(control.visibility, is_read, q);
-        return phase_route(clock, phase, crs);
+        return phase_route(clock, phase, control.visibility, is_read, q);
     }
     Route::LinkDown
 }

@@ -104,13 +104,6 @@ pub enum Part {
     WholeCard,
 }
 
-// What a record does to one slot before its answer, beside the live registers: it is answered with a status other than 0, and its
-// data; or it is done, with the slot's new status, and its data.
-pub enum SlotStep {
-    Refused(Completion, u32),
-    Does(Status, u32),
-}
-
 // What a record leaves that touches one slot, beside the lent slices.
 pub struct SlotDone {
     pub dev: Dev,

@@ -1,7 +1,8 @@
 -- `device::routing::phase_route` meets its contract.
 -- Assumes nothing.
 use borrow.Author.Needs.{needs}
-use Rattle.records.specs.Route.{phaseRoute}
+use mathlib.Core.Path.{ap, _∙_}
+use Rattle.records.specs.Route.{pendingRoute, phaseRoute}
 use Rattle.device.proofs.routing.phase_route.Statement.{statement}
 use Rattle.device.proofs.routing.phase_route.Tie as tie
 
@@ -10,6 +11,9 @@ enum-told c = search needs
 
 enum-known-phase : tie.Need-enum-known-phase
 enum-known-phase c = search needs
+
+crs-of-requires : tie.Need-crs-of-requires
+crs-of-requires c κs = search needs
 
 pending-route-requires : tie.Need-pending-route-requires
 pending-route-requires c κs = search needs
@@ -23,7 +27,10 @@ returns c = rw (c .enum-told .given .1)
 
 returns-2 : tie.Need-returns-2
 unfolding phaseRoute
-returns-2 c = rw (c .before .before .phase .given .1) (c .pending-route .ensures)
+returns-2 c =
+    let e = c .before .before .before .phase .given .1 in
+    let a = c .before .before .before .before .before .args in
+    rw e (c .pending-route .ensures ∙ ap (pendingRoute (a .clock) _ _) (c .before .crs-of .ensures))
 
 returns-3 : tie.Need-returns-3
 unfolding phaseRoute
@@ -35,6 +42,7 @@ phase-route-spec =
     (tie.spec
     enum-told
     enum-known-phase
+    crs-of-requires
     pending-route-requires
     enum-told-2
     returns

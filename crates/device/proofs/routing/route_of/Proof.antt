@@ -2,10 +2,10 @@
 -- Assumes nothing.
 use native.Mathlib.Omega.{arith}
 use borrow.Author.Needs.{needs}
-use mathlib.Core.Path.{ap, sym, _∙_}
+use mathlib.Core.Path.{sym, _∙_}
 use mathlib.Core.Bool.{false≢true}
 use borrow.Author.Tests.{lt-ltb, le-ltb}
-use Rattle.records.specs.Route.{phaseRoute, routeOf}
+use Rattle.records.specs.Route.{routeOf}
 use Rattle.device.proofs.Choices.{unless-true, unless-false}
 use Rattle.device.proofs.routing.route_of.Statement.{statement}
 use Rattle.device.proofs.routing.route_of.Tie as tie
@@ -22,18 +22,15 @@ returns-3 : tie.Need-returns-3
 unfolding routeOf
 returns-3 c = (simp (lt-ltb _ _ (c .before .before .before .before .if1 .left), le-ltb _ _ (c .before .before .if2 .left), lt-ltb _ _ (c .if3 .taken)), λ e. absurd (false≢true e))
 
-crs-of-requires : tie.Need-crs-of-requires
-crs-of-requires c κs = search needs
-
 phase-route-requires : tie.Need-phase-route-requires
 phase-route-requires c κs = search needs
 
 returns-4 : tie.Need-returns-4
 unfolding routeOf
 returns-4 c =
-    let b = c .before .before .before .before .before in
+    let b = c .before .before .before .before in
     let d = b .before .before .before .before .before .before .args .dev in
-    (simp (lt-ltb _ _ (b .before .before .before .before .if1 .left), le-ltb _ _ (b .before .before .if2 .left), le-ltb _ _ (b .if3 .left)) (c .phase-route .ensures ∙ ap (phaseRoute _ _) (c .before .crs-of .ensures) ∙ sym (unless-true (d .link) _ _ (c .before .before .before .before .if4 .taken))), λ e. (omega arith, omega arith))
+    (simp (lt-ltb _ _ (b .before .before .before .before .if1 .left), le-ltb _ _ (b .before .before .if2 .left), le-ltb _ _ (b .if3 .left)) (c .phase-route .ensures ∙ sym (unless-true (d .link) _ _ (c .before .before .before .if4 .taken))), λ e. (omega arith, omega arith))
 
 returns-5 : tie.Need-returns-5
 unfolding routeOf
@@ -45,4 +42,4 @@ returns-5 c =
 pub route-of-spec : {M : Type 1} → statement M
 route-of-spec =
     tie.close
-    (tie.spec returns returns-2 returns-3 crs-of-requires phase-route-requires returns-4 returns-5)
+    (tie.spec returns returns-2 returns-3 phase-route-requires returns-4 returns-5)

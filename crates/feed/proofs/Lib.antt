@@ -5,6 +5,8 @@ pub mod SettingUp
 pub mod Running
 pub mod Accepting
 pub mod Looping
+pub mod Fields
+pub mod Direct
 pub mod Numbers
 pub mod Prepared
 pub mod StateKept

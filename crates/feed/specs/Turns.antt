@@ -1,12 +1,21 @@
--- A record at one slot of the card, as the code hands it on.
+-- How a record takes its turn.
 -- Assumes nothing.
-use Prim.Native.Nat.{ℕ}
-use mathlib.Core.List.{List}
+use Prim.Native.Nat.{ℕ, _<_}
+use mathlib.Core.Path.{_≡_}
+use Rattle.times.specs.declared.Nanos.{Nanos}
+use Rattle.times.specs.Moments.{sumOf}
 use Rattle.records.specs.declared.Record.{Record}
-use Rattle.records.specs.State.{Seat}
-use Rattle.records.specs.Answer.{Ran}
-use Rattle.records.specs.Parts.{slotRun}
-use Rattle.feed.specs.declared.Place.{Place}
+use Rattle.records.specs.declared.Record.the-variants as variants
+use Rattle.records.specs.declared.Part.the-variants.{PortAlone, WholeCard}
+use Rattle.records.specs.Parts.{partOf}
+use Rattle.feed.specs.declared.Turn.{Turn}
+use Rattle.feed.specs.declared.Turn.the-variants as turn
 
-abbrev pub placeRun : Place → (defaults : List ℕ) → Record → Seat → Ran Seat
-placeRun p defaults r z = slotRun (p .slots) (p .kind) (p .bus) (p .entry) defaults (p .slot) r z
+-- what holds of a record that takes its turn so, with no slot that becomes Ready before `earliest`
+abbrev pub Takes : (slots : ℕ) → (earliest clock : Nanos) → Record → Turn → Type 0
+Takes slots earliest clock r (turn.Read q) = (r ≡ variants.Read q) × (q .slot < slots)
+Takes slots earliest clock r (turn.Write q value) = (r ≡ variants.Write q value) × (q .slot < slots)
+Takes slots earliest clock r (turn.Hardware i word mask) = (r ≡ variants.HardwareSet i word mask) × (i < slots)
+Takes slots earliest clock r turn.Port = partOf slots r ≡ PortAlone
+Takes slots earliest clock r (turn.Clock by) = (r ≡ variants.Advance by) × (sumOf clock by .0 < earliest .0)
+Takes slots earliest clock r turn.Card = partOf slots r ≡ WholeCard

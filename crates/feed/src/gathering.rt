@@ -7,31 +7,41 @@ ghost use lib.ListN.{length, getD, take, drop};
 ghost use lib.Seq.{paste};
 ghost use Rattle.trace.specs.Format.{sizeOf, pad, longest, next};
 ghost use Rattle.trace.specs.Feed.{gathered};
-ghost use Rattle.feed.specs.Gathering.{gatheredBytes};
+ghost use Rattle.feed.specs.Gathering.{gatheredBytes, WholeSize};
+ghost use Rattle.records.specs.Decode.{decode as decoded};
 use crate::Gathered;
 use crate::Port;
+use crate::reading::decode_at;
+use device::decoding::decode;
 use readiness::Dev;
-
-fn wide(x: u8) -> usize
-    ensures { λ r. ⌜ r ≡ x ⌝ }
-{
-    x as usize
-}
+use records::Record;
 
 // How many bytes a record of each kind has, its byte of kind with them; 0 where there is no such kind.
-const SIZES: [usize; 14] = [0, 5, 4, 8, 17, 1, 1, 1, 1, 1, 2, 2, 7, 1];
-
 pub fn size_of(kind: u8) -> usize
     ensures { λ r. ⌜ r ≡ sizeOf kind ⌝ }
 {
-    let k = wide(kind);
-    if k < 14 { SIZES[k] } else { 0 }
+    match kind {
+        0x01 => 5,
+        0x02 => 4,
+        0x03 => 8,
+        0x04 => 17,
+        0x05 => 1,
+        0x06 => 1,
+        0x07 => 1,
+        0x08 => 1,
+        0x09 => 1,
+        0x0A => 2,
+        0x0B => 2,
+        0x0C => 7,
+        0x0D => 1,
+        _ => 0,
+    }
 }
 
 // Byte j of a call's trace: what is carried, and then the input.
-fn byte_at(carried: [u8; 16], len: usize, input: &[u8], j: usize) -> u8
-    requires { ⌜ (len ≤ 16) × (j < len + length (now input)) ⌝ }
-    ensures { λ r. ⌜ r ≡ getD (take len carried ++ now (input .entry)) j 0 ⌝ }
+fn byte_at(carried: &[u8], len: usize, input: &[u8], j: usize) -> u8
+    requires { ⌜ (len ≤ length (now carried)) × (j < len + length (now input)) ⌝ }
+    ensures { λ r. ⌜ r ≡ getD (take len (now (carried .entry)) ++ now (input .entry)) j 0 ⌝ }
 {
     if j < len { carried[j] } else { input[j - len] }
 }
@@ -51,9 +61,9 @@ fn copy_input(input: &[u8], at: usize, n: usize) -> [u8; 17]
 }
 
 // The n bytes of a call's trace from `at` on, and zeros after them.
-fn copy(carried: [u8; 16], len: usize, input: &[u8], at: usize, n: usize) -> [u8; 17]
-    requires { ⌜ (len ≤ 16) × (n ≤ 17) × (at + n ≤ len + length (now input)) ⌝ }
-    ensures { λ r. ⌜ r ≡ pad longest (take n (drop at (take len carried ++ now (input .entry)))) ⌝ }
+fn copy(carried: &[u8], len: usize, input: &[u8], at: usize, n: usize) -> [u8; 17]
+    requires { ⌜ (len ≤ length (now carried)) × (n ≤ 17) × (at + n ≤ len + length (now input)) ⌝ }
+    ensures { λ r. ⌜ r ≡ pad longest (take n (drop at (take len (now (carried .entry)) ++ now (input .entry)))) ⌝ }
 {
     if len <= at {
         return copy_input(input, at - len, n);
@@ -65,6 +75,39 @@ fn copy(carried: [u8; 16], len: usize, input: &[u8], at: usize, n: usize) -> [u8
         j += 1;
     }
     bytes
+}
+
+// How many bytes the record at `at` in a call's trace has, if it is whole and there is room for its answer; else 0.
+pub fn whole_size(carried: &[u8], len: usize, input: &[u8], at: usize, space: usize) -> usize
+    requires { ⌜ (len ≤ length (now carried)) × (at ≤ len + length (now input)) ⌝ }
+    ensures { λ r. ⌜ WholeSize (drop at (take len (now (carried .entry)) ++ now (input .entry))) space r ⌝ }
+{
+    let there = len + input.len() - at;
+    if there == 0 {
+        return 0;
+    }
+    let size = size_of(byte_at(carried, len, input, at));
+    if size == 0 {
+        return 0;
+    }
+    if there < size {
+        return 0;
+    }
+    if space < 8 {
+        return 0;
+    }
+    size
+}
+
+// The whole record of `size` bytes at `at` in a call's trace.
+pub fn record_at(carried: &[u8], len: usize, input: &[u8], at: usize, size: usize) -> Record
+    requires { ⌜ (len ≤ length (now carried)) × (0 < size) × (at + size ≤ len + length (now input)) × (sizeOf (getD (drop at (take len (now carried) ++ now input)) 0 0) ≡ size) ⌝ }
+    ensures { λ r. ⌜ r ≡ decoded (pad longest (take size (drop at (take len (now (carried .entry)) ++ now (input .entry))))) ⌝ }
+{
+    if at < len {
+        return decode(copy(carried, len, input, at, size));
+    }
+    decode_at(input, at - len)
 }
 
 // The call's end: its number, and how many of the bytes are carried.
@@ -80,9 +123,9 @@ fn ended(number: u8, bytes: [u8; 17], count: usize) -> Gathered
 }
 
 // What stands at `at` in a call's trace, with `room` answer bytes left.
-pub fn gather(carried: [u8; 16], len: usize, input: &[u8], at: usize, room: usize) -> Gathered
-    requires { ⌜ (len ≤ 16) × (at ≤ len + length (now input)) ⌝ }
-    ensures { λ r. ⌜ gatheredBytes r ≡ gathered (drop at (take len carried ++ now (input .entry))) room (next (drop at (take len carried ++ now (input .entry)))) ⌝ }
+pub fn gather(carried: &[u8], len: usize, input: &[u8], at: usize, room: usize) -> Gathered
+    requires { ⌜ (len ≤ length (now carried)) × (at ≤ len + length (now input)) ⌝ }
+    ensures { λ r. ⌜ gatheredBytes r ≡ gathered (drop at (take len (now (carried .entry)) ++ now (input .entry))) room (next (drop at (take len (now (carried .entry)) ++ now (input .entry)))) ⌝ }
 {
     let there = len + input.len() - at;
     if there == 0 {
@@ -132,9 +175,12 @@ pub fn put(answers: &mut [u8], at: usize, answer: [u8; 8])
     requires { ⌜ at + 8 ≤ length (now answers) ⌝ }
     ensures { λ _. ⌜ now (answers .exit) ≡ paste (now (answers .entry)) at answer 8 ⌝ }
 {
-    let mut j: usize = 0;
-    while j < 8 {
-        answers[at + j] = answer[j];
-        j += 1;
-    }
+    answers[at] = answer[0];
+    answers[at + 1] = answer[1];
+    answers[at + 2] = answer[2];
+    answers[at + 3] = answer[3];
+    answers[at + 4] = answer[4];
+    answers[at + 5] = answer[5];
+    answers[at + 6] = answer[6];
+    answers[at + 7] = answer[7];
 }

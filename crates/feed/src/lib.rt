@@ -1,8 +1,10 @@
 // Set-up and feed by value over the lent slices: refusals, records gathered from the trace, answers.
 mod refusing; // refusals 1 to 4, and the carried bytes' part of 5
 mod gathering; // records from a call's trace, answers, and the bytes carried
+mod reading; // a record's fields, read where they stand in the input
+mod choosing; // how a record takes its turn
 mod lending; // statuses as they are lent, and what a set-up starts with
-mod turning; // a record's turn: it runs, and its answer is put
+mod turning; // a record's turn on the root port or the whole card, and its answer
 
 ghost use mathlib.Core.Path.{_≡_};
 ghost use mathlib.Core.List.{_++_};
@@ -15,25 +17,30 @@ ghost use Rattle.readiness.specs.Status.{ready};
 ghost use Rattle.feed.specs.Held.{held, lentOf};
 ghost use Rattle.feed.specs.SettingUp.{setsUp, prepared};
 ghost use Rattle.feed.specs.Feeding.{bench, feeds, left};
-use device::decoding::decode;
-use device::parts::part_of;
+use choosing::lowered;
+use choosing::turn_of;
+use device::card::advance_alone;
+use device::requests::run_hardware;
+use device::requests::run_read;
+use device::requests::run_write;
 use gathering::gather;
 use gathering::keep;
+use gathering::record_at;
+use gathering::whole_size;
 use lending::clear_cells;
 use lending::fresh_port;
 use lending::padded;
 use readiness::Dev;
 use readiness::Setup;
-use readiness::Slot;
 use readiness::Status;
-use records::Part;
+use records::Request;
 use refusing::refusal;
 use refusing::set_up_refusal;
 use registers::Kind;
+use times::Nanos;
+use turning::answer;
 use turning::card_turn;
-use turning::place_at;
 use turning::port_turn;
-use turning::slot_turn;
 
 // The port state: the device's part, the bytes of an incomplete record, how many they are, and whether the trace is broken.
 pub struct Port {
@@ -68,13 +75,20 @@ pub struct Gathered {
     pub count: usize,
 }
 
-// A slot of the card, with what the set-up says of it.
-pub struct Place {
-    pub slots: usize,
-    pub kind: Kind,
-    pub bus: u8,
-    pub slot: usize,
-    pub entry: Slot,
+// How a record takes its turn.
+pub enum Turn {
+    // A configuration read of a slot of the card.
+    Read(Request),
+    // A configuration write of one, with the value.
+    Write(Request, u32),
+    // Hardware sets bits of one: the slot, the word and the mask.
+    Hardware(usize, usize, u32),
+    // The root port alone.
+    Port,
+    // The clock moves by so much, and no slot becomes Ready.
+    Clock(Nanos),
+    // The whole card.
+    Card,
 }
 
 // Set-up: a refusal changes nothing.
@@ -142,36 +156,78 @@ fn run_trace(
     let len = port.carried_len;
     let mut dev = port.dev;
     let mut s = statuses;
+    let mut earliest = times::nanos_of(0);
     let mut at: usize = 0;
     let mut w: usize = 0;
     loop {
-        let g = gather(carried, len, input, at, answers.len() - w);
-        let next = at + g.count;
-        if !g.runs {
-            return call_end(dev, s, g, next - len, w);
+        let room = answers.len() - w;
+        let size = whole_size(&carried, len, input, at, room);
+        if size == 0 {
+            let g = gather(&carried, len, input, at, room);
+            return call_end(dev, s, g, at + g.count - len, w);
         }
+        let next = at + size;
         let more = w + 8;
-        let bytes = g.bytes;
-        let record = decode(bytes);
-        let part = part_of(setup.slots, record);
-        match part {
-            Part::OneSlot(slot) => {
-                let entry = setup.entries[slot];
-                let here = place_at(setup.slots, setup.bus, slot, entry);
+        let record = record_at(&carried, len, input, at, size);
+        let turn = turn_of(setup.slots, earliest, dev.clock, record);
+        match turn {
+            Turn::Read(q) => {
+                let slot = q.slot;
                 let status = s[slot];
-                let x = slot_turn(here, dev, status, record, live, defaults, cells, answers, w);
+                let reply = run_read(setup.slots, Kind::Endpoint, dev, status, live, q);
+                answer(answers, w, reply);
+            }
+            Turn::Write(q, value) => {
+                let slot = q.slot;
+                let entry = setup.entries[slot];
+                let status = s[slot];
+                let x = run_write(
+                    setup.slots,
+                    Kind::Endpoint,
+                    setup.bus,
+                    entry,
+                    slot,
+                    dev,
+                    status,
+                    live,
+                    defaults,
+                    cells,
+                    q,
+                    value,
+                );
+                answer(answers, w, x.reply);
                 let after = x.status;
                 s[slot] = after;
                 dev = x.dev;
+                earliest = lowered(earliest, after);
             }
-            Part::PortAlone => {
+            Turn::Hardware(slot, word, mask) => {
+                let status = s[slot];
+                let reply = run_hardware(
+                    setup.slots,
+                    Kind::Endpoint,
+                    status,
+                    live,
+                    slot,
+                    word,
+                    mask,
+                );
+                answer(answers, w, reply);
+            }
+            Turn::Port => {
                 let x = port_turn(setup.port_id, dev, record, cells, answers, w);
                 dev = x.dev;
             }
-            Part::WholeCard => {
+            Turn::Clock(by) => {
+                let x = advance_alone(dev, by);
+                answer(answers, w, x.reply);
+                dev = x.dev;
+            }
+            Turn::Card => {
                 let x = card_turn(setup, dev, s, record, live, defaults, cells, answers, w);
                 s = x.statuses;
                 dev = x.dev;
+                earliest = readiness::earliest_ready(s);
             }
         }
         at = next;
@@ -193,7 +249,8 @@ pub fn feed(
 ) -> Fed
     ensures { λ r. ⌜ left lent r (now (live .exit)) (now (cells .exit)) (now (answers .exit)) ≡ feeds setup (now (defaults .entry)) (held port (lentOf lent statuses) (now (live .entry)) (now (cells .entry))) (now (input .entry)) (now (answers .entry)) ⌝ }
 {
-    let no = refusal(setup, port, statuses, lent, live.len(), defaults, cells);
+    let filled = padded(statuses, lent);
+    let no = refusal(setup, port, filled, lent, live.len(), defaults, cells);
     if no != 0 {
         return Fed {
             number: no,
@@ -203,6 +260,15 @@ pub fn feed(
             statuses: statuses,
         };
     }
-    let s = padded(statuses, lent);
-    run_trace(setup, port, s, lent, live, defaults, cells, input, answers)
+    run_trace(
+        setup,
+        port,
+        filled,
+        lent,
+        live,
+        defaults,
+        cells,
+        input,
+        answers,
+    )
 }

@@ -1,8 +1,10 @@
 // Numbers given for no, 1 to 4: the first that applies; and the test of the carried bytes.
 ghost use mathlib.Core.Path.{_≡_};
-ghost use mathlib.Core.List.{List};
-ghost use Prim.Native.Nat.{ℕ, _+_, _*_, _≤_, _<_};
-ghost use lib.ListN.{length, take};
+ghost use mathlib.Core.List.{List, _++_};
+ghost use Prim.Native.Nat.{ℕ, _+_, _-_, _*_, _≤_, _<_};
+ghost use lib.ListN.{length, take, replicate};
+ghost use Rattle.readiness.specs.declared.Status.{Status};
+ghost use Rattle.readiness.specs.Status.{ready};
 ghost use Rattle.trace.specs.Format.{begun};
 ghost use Rattle.trace.specs.Lent.{refusalOr31};
 ghost use Rattle.feed.specs.Held.{held, lentOf};
@@ -10,7 +12,6 @@ ghost use Rattle.feed.specs.Refusals.{lengthsFit, queueFits, codesAllowe
 ghost use Rattle.feed.specs.Feeding.{bench};
 use crate::Port;
 use crate::gathering::size_of;
-use crate::lending::padded;
 use device::soundness::is_sound;
 use readiness::Setup;
 use readiness::Slot;
@@ -147,17 +148,17 @@ pub fn sound_carried(port: Port) -> bool
     begins(carried, n)
 }
 
-// 0, or the first number that applies before a byte is looked at: 1 to 5, then 31 for a broken trace.
+// 0, or the first number that applies before a byte is looked at: 1 to 5, then 31 for a broken trace. The statuses are Ready past the lent ones.
 pub fn refusal(
     setup: Setup,
     port: Port,
-    statuses: [Status; 32],
+    filled: [Status; 32],
     lent: usize,
     live: usize,
     defaults: &[u32],
     cells: &[u32],
 ) -> u8
-    ensures { λ r. ⌜ ((words : List ℕ) → length words ≡ live → r ≡ refusalOr31 (bench setup (now (defaults .entry))) (held port (lentOf lent statuses) words (now (cells .entry)))) ⌝ }
+    ensures { λ r. ⌜ ((statuses : List Status) → length statuses ≡ 32 → filled ≡ take lent statuses ++ replicate (32 - lent) ready → (words : List ℕ) → length words ≡ live → r ≡ refusalOr31 (bench setup (now (defaults .entry))) (held port (lentOf lent statuses) words (now (cells .entry)))) ⌝ }
 {
     let no = set_up_refusal(setup, lent, live, defaults, cells.len());
     if no != 0 {
@@ -167,8 +168,7 @@ pub fn refusal(
         return 5;
     }
     let dev = port.dev;
-    let s = padded(statuses, lent);
-    if !is_sound(setup, dev, s, cells) {
+    if !is_sound(setup, dev, filled, cells) {
         return 5;
     }
     if port.broken {

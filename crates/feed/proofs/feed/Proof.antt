@@ -24,23 +24,29 @@ abbrev lent : tie.Start → Held
 lent c = held (c .args .port) (lentOf (c .args .lent) (c .args .statuses)) (now (c .args .live)) (now (c .args .cells))
 
 abbrev entry : tie.After-refusal → tie.Start
-entry c = c .before .before .before .before .before .before .before
+entry c = c .before .before .before .before .before .before .before .before
 
 -- the number that was found
 number-is : (c : tie.After-refusal) → c .refusal .result ≡ refusalOr31 (bench (entry c .args .setup) (now (entry c .args .defaults))) (lent (entry c))
-number-is c = c .refusal .ensures (now (entry c .args .live)) (search needs)
+number-is c = c .refusal .ensures (entry c .args .statuses) (search needs) (c .before .before .padded .ensures) (now (entry c .args .live)) (search needs)
 
 relies : (c : tie.Else1) → Accepted (entry (c .before) .args .setup) (now (entry (c .before) .args .defaults)) (lent (entry (c .before)))
 relies c = accepted _ _ (lent (entry (c .before))) (sym (number-is (c .before)) ∙ c .if1 .left) (search needs) (search needs)
 
 -- the statuses, padded: the lent ones are as they were
-pads : (c : tie.After-padded) → let a = entry (c .before .before) .args in
-    (lentOf (a .lent) (c .padded .result) ≡ lentOf (a .lent) (a .statuses)) × (c .padded .result ≡ lentOf (a .lent) (c .padded .result) ++ replicate (32 - a .lent) ready)
+abbrev filled : tie.Else1 → List Status
+filled c = c .before .before .before .padded .result
+
+pads : (c : tie.Else1) → let a = entry (c .before) .args in
+    (lentOf (a .lent) (filled c) ≡ lentOf (a .lent) (a .statuses)) × (filled c ≡ lentOf (a .lent) (filled c) ++ replicate (32 - a .lent) ready)
 pads c =
-    let a = entry (c .before .before) .args in
-    let f = relies (c .before) .fits in
+    let a = entry (c .before) .args in
+    let f = relies c .fits in
     let n : length (a .statuses) ≡ 32 = search needs in
-    filled-pads (a .lent) (a .statuses) (c .padded .result) (omega (arith, length-lent (a .lent) (a .statuses), f .perSlot, f .most)) n (c .padded .ensures)
+    filled-pads (a .lent) (a .statuses) (filled c) (omega (arith, length-lent (a .lent) (a .statuses), f .perSlot, f .most)) n (c .before .before .before .padded .ensures)
+
+padded-requires : tie.Need-padded-requires
+padded-requires c κs = search needs
 
 refusal-requires : tie.Need-refusal-requires
 refusal-requires c κs = search needs
@@ -53,18 +59,15 @@ returns c =
     let s = entry (c .before) in
     feeds-no (bench (s .args .setup) (now (s .args .defaults))) (lent s) (now (s .args .input)) (now (s .args .answers)) (c .before .refusal .result) (number-is (c .before)) (c .if1 .taken)
 
-padded-requires : tie.Need-padded-requires
-padded-requires c κs = search needs
-
 run-trace-requires : tie.Need-run-trace-requires
 run-trace-requires c κs =
-    let p = c .before .before .before in
-    let r = p .before .before in
+    let e = c .before .before .before in
+    let r = e .before in
     let a = entry r .args in (
-      pads p .1,
-      ap (λ (l : List Status). refusalOr31 (bench (a .setup) (now (a .defaults))) (held (a .port) l (now (a .live)) (now (a .cells)))) (pads p .0)
+      pads e .1,
+      ap (λ (l : List Status). refusalOr31 (bench (a .setup) (now (a .defaults))) (held (a .port) l (now (a .live)) (now (a .cells)))) (pads e .0)
           ∙ sym (number-is r)
-          ∙ p .before .if1 .left,
+          ∙ e .if1 .left,
     )
 
 same-length-2 : tie.Need-same-length-2
@@ -79,19 +82,19 @@ same-length-4 c = search needs
 returns-2 : tie.Need-returns-2
 returns-2 c =
     let x = c .before .before .before .before .before .before in
-    let p = x .before .before .before .before in
-    let a = entry (p .before .before) .args in
+    let e = x .before .before .before .before in
+    let a = entry (e .before) .args in
     x .run-trace .ensures
-    ∙ ap (λ (l : List Status). feeds (a .setup) (now (a .defaults)) (held (a .port) l (now (a .live)) (now (a .cells))) (now (a .input)) (now (a .answers))) (pads p .0)
+    ∙ ap (λ (l : List Status). feeds (a .setup) (now (a .defaults)) (held (a .port) l (now (a .live)) (now (a .cells))) (now (a .input)) (now (a .answers))) (pads e .0)
 
 pub feed-spec : {M : Type 1} → statement M
 feed-spec =
     tie.close
     (tie.spec
+    padded-requires
     refusal-requires
     same-length
     returns
-    padded-requires
     run-trace-requires
     same-length-2
     same-length-3

@@ -14,7 +14,7 @@ use Rattle.feed.proofs.gathering.copy.Statement.{statement}
 use Rattle.feed.proofs.gathering.copy.Tie as tie
 
 abbrev Inv-loop : tie.InvT-loop
-Inv-loop carried len input at n bytes₀ j₀ bytes j = (j ≤ n) × (len ≤ 16) × (n ≤ 17) × (at + n ≤ len + length input) × (bytes ≡ pad 17 (take j (drop at (take len carried ++ input))))
+Inv-loop carried len input at n bytes₀ j₀ bytes j = (j ≤ n) × (len ≤ length carried) × (n ≤ 17) × (at + n ≤ len + length input) × (bytes ≡ pad 17 (take j (drop at (take len carried ++ input))))
 
 abbrev μ-loop : tie.MeasureT-loop
 μ-loop carried len input at n bytes₀ j₀ bytes j = n - j
@@ -24,9 +24,8 @@ copy-input-requires c κs = search needs
 
 returns : tie.Need-returns Inv-loop μ-loop
 returns c =
-    let a = c .before .before .before .args in
-    let n : length (a .carried) ≡ 16 = search needs in
-    c .copy-input .ensures ∙ ap (λ (l : List ℕ). pad 17 (take (a .n) l)) (sym (drop-joined (a .carried) (now (a .input)) (a .len) (a .at) (omega arith) (omega arith)))
+    let a = c .before .before .before .before .args in
+    c .copy-input .ensures ∙ ap (λ (l : List ℕ). pad 17 (take (a .n) l)) (sym (drop-joined (now (a .carried)) (now (a .input)) (a .len) (a .at) (omega arith) (omega arith)))
 
 loop-holds : tie.Need-loop-holds Inv-loop μ-loop
 loop-holds c = (omega arith, omega arith, omega arith, omega arith, refl)
@@ -49,10 +48,9 @@ loop-less c = search needs
 loop-again : tie.Need-loop-again Inv-loop μ-loop
 loop-again c =
     let l = c .before .before .loop in
-    let a = c .before .before .before .before .before .args in
-    let bs = take (a .len) (a .carried) ++ now (a .input) in
-    let n : length (a .carried) ≡ 16 = search needs in
-    let h : l .j < length (drop (a .at) bs) = omega (arith, length-drop (a .at) bs, length-joined (a .carried) (now (a .input)) (a .len) (omega arith)) in (
+    let a = c .before .before .before .before .before .before .args in
+    let bs = take (a .len) (now (a .carried)) ++ now (a .input) in
+    let h : l .j < length (drop (a .at) bs) = omega (arith, length-drop (a .at) bs, length-joined (now (a .carried)) (now (a .input)) (a .len) (omega arith)) in (
       omega arith,
       omega arith,
       omega arith,
@@ -63,9 +61,9 @@ loop-again c =
 returns-2 : tie.Need-returns-2 Inv-loop μ-loop
 returns-2 c =
     let l = c .before .loop in
-    let a = c .before .before .before .before .args in
+    let a = c .before .before .before .before .before .args in
     let e : l .j ≡ a .n = omega arith in
-    l .inv .4 ∙ ap (λ (n : ℕ). pad 17 (take n (drop (a .at) (take (a .len) (a .carried) ++ now (a .input))))) e
+    l .inv .4 ∙ ap (λ (n : ℕ). pad 17 (take n (drop (a .at) (take (a .len) (now (a .carried)) ++ now (a .input))))) e
 
 pub copy-spec : {M : Type 1} → statement M
 copy-spec =

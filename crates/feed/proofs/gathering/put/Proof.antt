@@ -1,71 +1,116 @@
 -- `feed::gathering::put` meets its contract.
 -- Assumes nothing.
-use mathlib.Core.Path.{_≡_, refl, ap, _∙_}
 use borrow.Author.Needs.{needs}
+use mathlib.Core.Path.{_≡_}
 use native.Mathlib.Omega.{arith}
-use Prim.Native.Nat.{ℕ, _+_, _-_, _≤_}
-use lib.ListN.{length, getD, length-set}
-use lib.Seq.{paste, paste-zero, paste-suc}
+use lib.ListN.{length, length-set}
 use denote.Ref.{now}
-use native.Mathlib.Numerals.{add-one}
+use Rattle.feed.proofs.Fields.{stores, stored}
 use Rattle.feed.proofs.gathering.put.Statement.{statement}
 use Rattle.feed.proofs.gathering.put.Tie as tie
 
-abbrev Inv-loop : tie.InvT-loop
-Inv-loop answers₀ at answer j₀ answers j = (j ≤ 8) × (length answers ≡ length answers₀) × (answers ≡ paste answers₀ at answer j)
-
-abbrev μ-loop : tie.MeasureT-loop
-μ-loop answers₀ at answer j₀ answers j = 8 - j
-
-loop-holds : tie.Need-loop-holds Inv-loop μ-loop
-loop-holds c = (omega arith, refl, paste-zero (now (c .args .answers)) (c .args .at) (c .args .t3))
-
-array-read-answers : tie.Need-array-read-answers Inv-loop μ-loop
+array-read-answers : tie.Need-array-read-answers
 array-read-answers c = search needs
 
-add-answers : tie.Need-add-answers Inv-loop μ-loop
-add-answers c = omega arith
+slice-write-answers : tie.Need-slice-write-answers
+slice-write-answers c = search needs
 
-slice-write-answers : tie.Need-slice-write-answers Inv-loop μ-loop
-slice-write-answers c = omega arith
+array-read-answers-2 : tie.Need-array-read-answers-2
+array-read-answers-2 c = search needs
 
-add-j : tie.Need-add-j Inv-loop μ-loop
-add-j c = search needs
+add-answers : tie.Need-add-answers
+add-answers c = search needs
 
-loop-less : tie.Need-loop-less Inv-loop μ-loop
-loop-less c = search needs
+slice-write-answers-2 : tie.Need-slice-write-answers-2
+slice-write-answers-2 c = simp length-set (omega arith)
 
-loop-again : tie.Need-loop-again Inv-loop μ-loop
-loop-again c =
-    let l = c .before .loop in
-    let a = c .before .before .args in
-    let e : length (a .t3) ≡ 8 = search needs in (
-      omega arith,
-      length-set (l .answers) (a .at + l .j) (getD (a .t3) (l .j) 0) ∙ l .inv .1,
-      rw (l .inv .2, add-one) (paste-suc (now (a .answers)) (a .at) (a .t3) (l .j) 0 (omega arith) (omega arith)),
-    )
+array-read-answers-3 : tie.Need-array-read-answers-3
+array-read-answers-3 c = search needs
 
-same-length : tie.Need-same-length Inv-loop μ-loop
-same-length c = c .before .loop .inv .1
+add-answers-2 : tie.Need-add-answers-2
+add-answers-2 c = search needs
 
-returns : tie.Need-returns Inv-loop μ-loop
-returns c =
-    let a = c .before .before .args in
-    let e : c .before .loop .j ≡ 8 = omega arith in
-    c .before .loop .inv .2 ∙ ap (λ (k : ℕ). paste (now (a .answers)) (a .at) (a .t3) k) e
+slice-write-answers-3 : tie.Need-slice-write-answers-3
+slice-write-answers-3 c = simp length-set (omega arith)
+
+array-read-answers-4 : tie.Need-array-read-answers-4
+array-read-answers-4 c = search needs
+
+add-answers-3 : tie.Need-add-answers-3
+add-answers-3 c = search needs
+
+slice-write-answers-4 : tie.Need-slice-write-answers-4
+slice-write-answers-4 c = simp length-set (omega arith)
+
+array-read-answers-5 : tie.Need-array-read-answers-5
+array-read-answers-5 c = search needs
+
+add-answers-4 : tie.Need-add-answers-4
+add-answers-4 c = search needs
+
+slice-write-answers-5 : tie.Need-slice-write-answers-5
+slice-write-answers-5 c = simp length-set (omega arith)
+
+array-read-answers-6 : tie.Need-array-read-answers-6
+array-read-answers-6 c = search needs
+
+add-answers-5 : tie.Need-add-answers-5
+add-answers-5 c = search needs
+
+slice-write-answers-6 : tie.Need-slice-write-answers-6
+slice-write-answers-6 c = simp length-set (omega arith)
+
+array-read-answers-7 : tie.Need-array-read-answers-7
+array-read-answers-7 c = search needs
+
+add-answers-6 : tie.Need-add-answers-6
+add-answers-6 c = search needs
+
+slice-write-answers-7 : tie.Need-slice-write-answers-7
+slice-write-answers-7 c = simp length-set (omega arith)
+
+array-read-answers-8 : tie.Need-array-read-answers-8
+array-read-answers-8 c = search needs
+
+add-answers-7 : tie.Need-add-answers-7
+add-answers-7 c = search needs
+
+slice-write-answers-8 : tie.Need-slice-write-answers-8
+slice-write-answers-8 c = simp length-set (omega arith)
+
+same-length : tie.Need-same-length
+same-length c = simp length-set
+
+returns : tie.Need-returns
+unfolding stores
+returns c = let a = c .args in let e : length (a .t3) ≡ 8 = search needs in stored (now (a .answers)) (a .at) (a .t3) 7 (omega arith) (omega arith)
 
 pub put-spec : {M : Type 1} → statement M
 put-spec =
     tie.close
     (tie.spec
-    Inv-loop
-    μ-loop
-    loop-holds
     array-read-answers
-    add-answers
     slice-write-answers
-    add-j
-    loop-less
-    loop-again
+    array-read-answers-2
+    add-answers
+    slice-write-answers-2
+    array-read-answers-3
+    add-answers-2
+    slice-write-answers-3
+    array-read-answers-4
+    add-answers-3
+    slice-write-answers-4
+    array-read-answers-5
+    add-answers-4
+    slice-write-answers-5
+    array-read-answers-6
+    add-answers-5
+    slice-write-answers-6
+    array-read-answers-7
+    add-answers-6
+    slice-write-answers-7
+    array-read-answers-8
+    add-answers-7
+    slice-write-answers-8
     same-length
     returns)

@@ -1,0 +1,103 @@
+-- Records that take their turn apart: those that touch one slot, and an advance before any slot becomes Ready; and moments before which none does.
+-- Assumes nothing.
+use Prim.Native.Nat.{ℕ, _-_, _<_}
+use native.Mathlib.Omega.{arith}
+use mathlib.Core.Path.{_≡_, refl, sym, ap, _∙_, subst}
+use mathlib.Core.Bool.{Bool, true, false, not, _&&_, _||_, cond}
+use mathlib.Core.List.{List, [], _∷_}
+use lib.ListN.{getD, set}
+use lib.Dec.{ltb}
+use lib.Seq.{set-getD}
+use borrow.Author.Tests.{lt-ltb}
+use Rattle.times.specs.declared.Nanos.{Nanos}
+use Rattle.times.specs.Moments.{sumOf, leastOf}
+use Rattle.readiness.specs.declared.Cause.{Cause}
+use Rattle.readiness.specs.declared.Phase.{Phase}
+use Rattle.readiness.specs.declared.Phase.the-variants.{Down, Pending, Ready}
+use Rattle.readiness.specs.declared.Status.{Status}
+use Rattle.readiness.specs.declared.Setup.{Setup}
+use Rattle.readiness.specs.declared.Dev.{Dev}
+use Rattle.readiness.specs.Status.{allReady, entryOf}
+use Rattle.readiness.specs.Events.{due}
+use Rattle.readiness.specs.Earliest.{readyTime, PhaseFrom, ReadyFrom}
+use Rattle.readiness.proofs.Bounds.{bound-quiet, bound-set, bound-least, bound-unpadded}
+use Rattle.records.specs.declared.Record.{Record}
+use Rattle.records.specs.declared.Record.the-variants.{Advance}
+use Rattle.records.specs.declared.Reply.{Reply}
+use Rattle.records.specs.declared.Part.the-variants.{OneSlot, PortAlone, WholeCard}
+use Rattle.records.specs.declared.SlotDone.{SlotDone}
+use Rattle.records.specs.declared.PortDone.{PortDone}
+use Rattle.records.specs.State.{State, Seat, state, seat, kindOf}
+use Rattle.records.specs.Answer.{Ran}
+use Rattle.records.specs.Run.{run}
+use Rattle.records.specs.Parts.{partAt, partOf, slotRun, slotRan, cardRun}
+use Rattle.records.proofs.Parted.{run-card}
+use Rattle.feed.specs.Held.{lentOf}
+use Rattle.feed.proofs.Running.{Good, Pads, Runs, slot-runs}
+
+-- ---- moments before which no slot becomes Ready
+-- the first moment is one
+pub bound-zero : (l : List Status) → ReadyFrom (record { 0 = 0 }) l
+bound-zero [] = tt
+bound-zero (s ∷ l) = (phase-zero (s .phase), bound-zero l)
+  where
+    phase-zero : (p : Phase) → PhaseFrom (record { 0 = 0 }) p
+    phase-zero Down = tt
+    phase-zero Ready = tt
+    phase-zero (Pending c t) = omega arith
+
+-- one slot's status anew
+pub bound-down : (e : Nanos) (s : Status) → s .phase ≡ Down → (l : List Status) (i : ℕ) → ReadyFrom e l → ReadyFrom e (set l i s)
+bound-down e s q l i b = bound-set e l i s b (subst (PhaseFrom e) (sym q) tt)
+
+pub bound-brought : (e : Nanos) (s : Status) → s .phase ≡ Ready → (l : List Status) (i : ℕ) → ReadyFrom e l → ReadyFrom e (set l i s)
+bound-brought e s q l i b = bound-set e l i s b (subst (PhaseFrom e) (sym q) tt)
+
+pub bound-started : (e : Nanos) (s : Status) (c : Cause) (t r : Nanos) → s .phase ≡ Pending c t → r ≡ leastOf t e → (l : List Status) (i : ℕ) → ReadyFrom e l → ReadyFrom r (set l i s)
+bound-started e s c t r q f l i b =
+    subst (λ (m : Nanos). ReadyFrom m (set l i s)) (sym (f ∙ ap (λ (p : Phase). leastOf (readyTime p) e) (sym q))) (bound-least e l i s b)
+
+-- ---- a DRS that is owed on a sound state: not every slot is Ready
+owed-rests : (owed link all : Bool) → (not owed || (link && not all)) ≡ true → (owed && all) ≡ false
+owed-rests false link all e = refl
+owed-rests true link false e = refl
+owed-rests true true true e = sym e
+owed-rests true false true e = sym e
+
+-- ---- a slot of the card
+pub at-slot : (slots i : ℕ) → i < slots → partAt slots i ≡ OneSlot i
+at-slot slots i h = ap (λ (b : Bool). cond b (OneSlot i) PortAlone) (lt-ltb i slots h)
+
+module _ (k : Setup) (defaults : List ℕ) (n : ℕ) (array : List Status) (dev : Dev) (live cells : List ℕ) (r : Record) where
+  abbrev present : State
+  present = state dev (lentOf n array) live cells
+
+  module _ (s₀ : State) (g : Good k defaults s₀ present) (p : Pads n array) where
+    -- a record that touches one slot
+    pub one-runs : n ≡ k .slots → (i : ℕ) (z : Record) → r ≡ z → partOf (k .slots) z ≡ OneSlot i → (d : Status) (x : SlotDone) (live′ cells′ : List ℕ)
+        → slotRan x live′ cells′ ≡ slotRun (k .slots) (kindOf k i) (k .bus) (entryOf k i) defaults i z (seat dev (getD array i d) live cells)
+        → Runs k defaults n array dev live cells r (state (x .dev) (lentOf n (set array i (x .status))) live′ cells′) (x .reply)
+    one-runs f i z e o d x live′ cells′ y =
+        slot-runs k defaults n array dev live cells r s₀ g p f i (ap (partOf (k .slots)) e ∙ o) d x live′ cells′
+        (y ∙ ap (λ (z : Record). slotRun (k .slots) (kindOf k i) (k .bus) (entryOf k i) defaults i z (seat dev (getD array i d) live cells)) (sym e))
+
+    -- one that leaves its status and the root port
+    pub still-runs : n ≡ k .slots → (i : ℕ) (z : Record) → r ≡ z → partOf (k .slots) z ≡ OneSlot i → (d : Status) (a : Reply) (live′ : List ℕ)
+        → _≡_ {A = Ran Seat} (slotRun (k .slots) (kindOf k i) (k .bus) (entryOf k i) defaults i z (seat dev (getD array i d) live cells))
+        (record { after = seat dev (getD array i d) live′ cells; reply = a })
+        → Runs k defaults n array dev live cells r (state dev (lentOf n array) live′ cells) a
+    still-runs f i z e o d a live′ y =
+        subst (λ (l : List Status). Runs k defaults n array dev live cells r (state dev (lentOf n l) live′ cells) a) (set-getD array i d)
+        (one-runs f i z e o d (record { dev = dev; status = getD array i d; reply = a }) live′ cells (sym y))
+
+    -- an advance to a moment before which no slot becomes Ready
+    pub clock-runs : (bound : Nanos) → ReadyFrom bound array → (by : Nanos) → r ≡ Advance by → sumOf (dev .clock) by .0 < bound .0 → (x : PortDone)
+        → (due (sumOf (dev .clock) by) (lentOf n array) ≡ [] → (dev .owed && allReady (lentOf n array)) ≡ false
+        → cardRun k defaults (Advance by) present ≡ record { after = state (x .dev) (lentOf n array) live cells; reply = x .reply })
+        → Runs k defaults n array dev live cells r (state (x .dev) (lentOf n array) live cells) (x .reply)
+    clock-runs bound b by e h x c =
+        let y = run-card k defaults present r (ap (partOf (k .slots)) e)
+        ∙ ap (λ (z : Record). cardRun k defaults z present) e
+        ∙ c (bound-quiet bound (sumOf (dev .clock) by) (lentOf n array) (bound-unpadded bound (lentOf n array) (32 - n) (subst (ReadyFrom bound) (p .past) b)) h)
+        (owed-rests (dev .owed) (dev .link) (allReady (lentOf n array)) (g .kept .sound .owed)) in
+        record { after = sym (ap (λ (z : Ran State). z .after) y); reply = sym (ap (λ (z : Ran State). z .reply) y) }

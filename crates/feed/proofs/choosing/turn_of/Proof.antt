@@ -1,0 +1,141 @@
+-- `feed::choosing::turn_of` meets its contract.
+-- Assumes nothing.
+use borrow.Author.Needs.{needs}
+use mathlib.Core.Path.{sym, subst}
+use Rattle.records.specs.declared.Record.{Record}
+use Rattle.feed.specs.Turns.{Takes}
+use Rattle.feed.proofs.choosing.turn_of.Statement.{statement}
+use Rattle.feed.proofs.choosing.turn_of.Tie as tie
+
+enum-known-record : tie.Need-enum-known-record
+enum-known-record c = search needs
+
+clock-turn-requires : tie.Need-clock-turn-requires
+clock-turn-requires c κs = search needs
+
+enum-known-record-2 : tie.Need-enum-known-record-2
+enum-known-record-2 c = search needs
+
+read-turn-requires : tie.Need-read-turn-requires
+read-turn-requires c κs = search needs
+
+enum-known-record-3 : tie.Need-enum-known-record-3
+enum-known-record-3 c = search needs
+
+write-turn-requires : tie.Need-write-turn-requires
+write-turn-requires c κs = search needs
+
+enum-told : tie.Need-enum-told
+enum-told c = search needs
+
+enum-told-2 : tie.Need-enum-told-2
+enum-told-2 c = search needs
+
+enum-told-3 : tie.Need-enum-told-3
+enum-told-3 c = search needs
+
+enum-told-4 : tie.Need-enum-told-4
+enum-told-4 c = search needs
+
+enum-told-5 : tie.Need-enum-told-5
+enum-told-5 c = search needs
+
+enum-told-6 : tie.Need-enum-told-6
+enum-told-6 c = search needs
+
+enum-told-7 : tie.Need-enum-told-7
+enum-told-7 c = search needs
+
+enum-told-8 : tie.Need-enum-told-8
+enum-told-8 c = search needs
+
+enum-known-record-4 : tie.Need-enum-known-record-4
+enum-known-record-4 c = search needs
+
+hardware-turn-requires : tie.Need-hardware-turn-requires
+hardware-turn-requires c κs = search needs
+
+enum-told-9 : tie.Need-enum-told-9
+enum-told-9 c = search needs
+
+enum-told-10 : tie.Need-enum-told-10
+enum-told-10 c = search needs
+
+returns : tie.Need-returns
+returns c = let a = c .before .before .before .before .args in subst (λ (x : Record). Takes (a .slots) (a .earliest) (a .clock) x (c .clock-turn .result)) (sym (c .before .before .«record» .given .1)) (c .clock-turn .ensures (a .slots))
+
+returns-2 : tie.Need-returns-2
+returns-2 c = let a = c .before .before .before .before .args in subst (λ (x : Record). Takes (a .slots) (a .earliest) (a .clock) x (c .read-turn .result)) (sym (c .before .before .record2 .given .1)) (c .read-turn .ensures (a .earliest) (a .clock))
+
+returns-3 : tie.Need-returns-3
+returns-3 c = let a = c .before .before .before .before .args in subst (λ (x : Record). Takes (a .slots) (a .earliest) (a .clock) x (c .write-turn .result)) (sym (c .before .before .record3 .given .1)) (c .write-turn .ensures (a .earliest) (a .clock))
+
+returns-4 : tie.Need-returns-4
+returns-4 c = search needs
+
+returns-5 : tie.Need-returns-5
+returns-5 c = search needs
+
+returns-6 : tie.Need-returns-6
+returns-6 c = search needs
+
+returns-7 : tie.Need-returns-7
+returns-7 c = search needs
+
+returns-8 : tie.Need-returns-8
+returns-8 c = search needs
+
+returns-9 : tie.Need-returns-9
+returns-9 c = search needs
+
+returns-10 : tie.Need-returns-10
+returns-10 c = search needs
+
+returns-11 : tie.Need-returns-11
+returns-11 c = search needs
+
+returns-12 : tie.Need-returns-12
+returns-12 c = let a = c .before .before .before .before .args in subst (λ (x : Record). Takes (a .slots) (a .earliest) (a .clock) x (c .hardware-turn .result)) (sym (c .before .before .record4 .given .1)) (c .hardware-turn .ensures (a .earliest) (a .clock))
+
+returns-13 : tie.Need-returns-13
+returns-13 c = search needs
+
+returns-14 : tie.Need-returns-14
+returns-14 c = search needs
+
+pub turn-of-spec : {M : Type 1} → statement M
+turn-of-spec =
+    tie.close
+    (tie.spec
+    enum-known-record
+    clock-turn-requires
+    enum-known-record-2
+    read-turn-requires
+    enum-known-record-3
+    write-turn-requires
+    enum-told
+    enum-told-2
+    enum-told-3
+    enum-told-4
+    enum-told-5
+    enum-told-6
+    enum-told-7
+    enum-told-8
+    enum-known-record-4
+    hardware-turn-requires
+    enum-told-9
+    enum-told-10
+    returns
+    returns-2
+    returns-3
+    returns-4
+    returns-5
+    returns-6
+    returns-7
+    returns-8
+    returns-9
+    returns-10
+    returns-11
+    returns-12
+    returns-13
+    returns-14)

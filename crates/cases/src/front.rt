@@ -1,11 +1,11 @@
 // The front of a case after its first byte: how much is lent, the bus number, the port's ID and 32 entries.
 ghost use Prim.Native.Nat.{_<_};
-use crate::image::is_yes;
-use crate::image::is_yes_or_no;
-use crate::input::byte_at;
-use crate::input::size;
-use crate::input::size_of_byte;
-use crate::input::two_at;
+use image::numbers::byte_at;
+use image::numbers::size;
+use image::numbers::size_of_byte;
+use image::numbers::two_at;
+use image::state::is_yes;
+use image::state::is_yes_or_no;
 use readiness::Setup;
 use readiness::Slot;
 

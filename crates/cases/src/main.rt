@@ -1,8 +1,7 @@
 // Reads a stream of cases from standard input, drives set-up and feed, and writes what they gave and the state afterwards. A
 // malformed stream ends it with `bad case` on standard error; what was written before stands.
-mod input; // bytes and numbers from standard input
-mod output; // bytes and numbers to standard output
-mod image; // a state as bytes
+mod input; // bytes and words from standard input
+mod output; // bytes and words to standard output
 mod front; // what a case lends: lengths and the set-up
 mod turn; // what goes from one operation to the next
 mod bench_calls; // the two calls that the cases drive

@@ -4,8 +4,6 @@ use crate::front::Lengths;
 use crate::front::are_good_entries;
 use crate::front::lengths_in;
 use crate::front::setup_in;
-use crate::image::port_in;
-use crate::image::statuses_in;
 use crate::input::fill;
 use crate::input::operation_byte;
 use crate::input::read_words;
@@ -15,6 +13,8 @@ use crate::operations::set_up_operation;
 use crate::turn::Turn;
 use crate::turn::ended;
 use crate::turn::turned;
+use image::state::port_in;
+use image::state::statuses_in;
 use readiness::Setup;
 
 // A case starts with everything at 0, statuses Down.

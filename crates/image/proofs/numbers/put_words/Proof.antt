@@ -1,11 +1,11 @@
--- `cases::output::put_words` is safe and ends: it counts to the number of words.
+-- `image::numbers::put_words` is safe and ends: it counts to the number of words.
 -- Assumes nothing.
 use borrow.Author.Needs.{needs}
 use Prim.Native.Nat.{_≤_, _-_}
 use mathlib.Core.Path.{_≡_}
 use lib.ListN.{length}
-use Rattle.cases.proofs.output.put_words.Statement.{statement}
-use Rattle.cases.proofs.output.put_words.Tie as tie
+use Rattle.image.proofs.numbers.put_words.Statement.{statement}
+use Rattle.image.proofs.numbers.put_words.Tie as tie
 
 abbrev Inv-loop : tie.InvT-loop
 Inv-loop bytes₀ words i₀ bytes i = (i ≤ length words) × (length bytes ≡ length bytes₀)

@@ -1,11 +1,11 @@
--- `cases::image::put_carried` is safe and ends: it counts to n, at most 16.
+-- `image::state::put_carried` is safe and ends: it counts to n, at most 16.
 -- Assumes nothing.
 use borrow.Author.Needs.{needs}
 use Prim.Native.Nat.{_≤_, _-_}
 use mathlib.Core.Path.{_≡_}
 use lib.ListN.{length}
-use Rattle.cases.proofs.image.put_carried.Statement.{statement}
-use Rattle.cases.proofs.image.put_carried.Tie as tie
+use Rattle.image.proofs.state.put_carried.Statement.{statement}
+use Rattle.image.proofs.state.put_carried.Tie as tie
 
 abbrev Inv-loop : tie.InvT-loop
 Inv-loop bytes₀ count carried n i₀ bytes i = (n ≤ 16) × (i ≤ n) × (length bytes ≡ length bytes₀)

@@ -1,9 +1,9 @@
--- `cases::image::are_good_statuses` is safe and ends: it counts to 32.
+-- `image::state::are_good_statuses` is safe and ends: it counts to 32.
 -- Assumes nothing.
 use borrow.Author.Needs.{needs}
 use Prim.Native.Nat.{_≤_, _-_}
-use Rattle.cases.proofs.image.are_good_statuses.Statement.{statement}
-use Rattle.cases.proofs.image.are_good_statuses.Tie as tie
+use Rattle.image.proofs.state.are_good_statuses.Statement.{statement}
+use Rattle.image.proofs.state.are_good_statuses.Tie as tie
 
 abbrev Inv-loop : tie.InvT-loop
 Inv-loop bytes i₀ good₀ i good = i ≤ 32

@@ -1,11 +1,11 @@
--- `cases::image::carried_in` is safe and ends: it counts to 16.
+-- `image::state::carried_in` is safe and ends: it counts to 16.
 -- Assumes nothing.
 use borrow.Author.Needs.{needs}
 use Prim.Native.Nat.{_≤_, _-_}
 use mathlib.Core.Path.{_≡_}
 use lib.ListN.{length}
-use Rattle.cases.proofs.image.carried_in.Statement.{statement}
-use Rattle.cases.proofs.image.carried_in.Tie as tie
+use Rattle.image.proofs.state.carried_in.Statement.{statement}
+use Rattle.image.proofs.state.carried_in.Tie as tie
 
 abbrev Inv-loop : tie.InvT-loop
 Inv-loop bytes carried₀ i₀ carried i = (i ≤ 16) × (length carried ≡ 16)

@@ -1,11 +1,11 @@
--- `cases::image::statuses_in` is safe and ends: it counts to 32.
+-- `image::state::statuses_in` is safe and ends: it counts to 32.
 -- Assumes nothing.
 use borrow.Author.Needs.{needs}
 use Prim.Native.Nat.{_≤_, _-_}
 use mathlib.Core.Path.{_≡_}
 use lib.ListN.{length}
-use Rattle.cases.proofs.image.statuses_in.Statement.{statement}
-use Rattle.cases.proofs.image.statuses_in.Tie as tie
+use Rattle.image.proofs.state.statuses_in.Statement.{statement}
+use Rattle.image.proofs.state.statuses_in.Tie as tie
 
 abbrev Inv-loop : tie.InvT-loop
 Inv-loop bytes statuses₀ i₀ statuses i = (i ≤ 32) × (length statuses ≡ 32)

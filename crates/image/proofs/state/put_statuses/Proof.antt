@@ -1,11 +1,11 @@
--- `cases::image::put_statuses` is safe and ends: it counts to 32.
+-- `image::state::put_statuses` is safe and ends: it counts to 32.
 -- Assumes nothing.
 use borrow.Author.Needs.{needs}
 use Prim.Native.Nat.{_≤_, _-_}
 use mathlib.Core.Path.{_≡_}
 use lib.ListN.{length}
-use Rattle.cases.proofs.image.put_statuses.Statement.{statement}
-use Rattle.cases.proofs.image.put_statuses.Tie as tie
+use Rattle.image.proofs.state.put_statuses.Statement.{statement}
+use Rattle.image.proofs.state.put_statuses.Tie as tie
 
 abbrev Inv-loop : tie.InvT-loop
 Inv-loop bytes₀ statuses i₀ bytes i = (i ≤ 32) × (length bytes ≡ length bytes₀)

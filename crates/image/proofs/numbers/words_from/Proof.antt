@@ -1,11 +1,11 @@
--- `cases::input::words_from` is safe and ends: it counts to the number of words.
+-- `image::numbers::words_from` is safe and ends: it counts to the number of words.
 -- Assumes nothing.
 use borrow.Author.Needs.{needs}
 use Prim.Native.Nat.{_≤_, _-_}
 use mathlib.Core.Path.{_≡_}
 use lib.ListN.{length}
-use Rattle.cases.proofs.input.words_from.Statement.{statement}
-use Rattle.cases.proofs.input.words_from.Tie as tie
+use Rattle.image.proofs.numbers.words_from.Statement.{statement}
+use Rattle.image.proofs.numbers.words_from.Tie as tie
 
 abbrev Inv-loop : tie.InvT-loop
 Inv-loop bytes words₀ i₀ words i = (i ≤ length words₀) × (length words ≡ length words₀)

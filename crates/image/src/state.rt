@@ -1,14 +1,17 @@
-// A state as bytes: the port, then the lent statuses. (The live words and the cells follow in the stream.)
+// A state as bytes: the port, then the lent statuses. (The live words and the cells follow, as words.)
+ghost use mathlib.Core.Path.{_≡_};
 ghost use Prim.Native.Nat.{_<_, _≤_, _^_};
-use crate::input::byte_at;
-use crate::input::eight_at;
-use crate::input::size;
-use crate::input::size_of_byte;
-use crate::input::two_at;
-use crate::output::put;
-use crate::output::put_bool;
-use crate::output::put_eight;
-use crate::output::put_two;
+ghost use lib.ListN.{replicate};
+ghost use Rattle.readiness.specs.Status.{down};
+use crate::numbers::byte_at;
+use crate::numbers::eight_at;
+use crate::numbers::put;
+use crate::numbers::put_bool;
+use crate::numbers::put_eight;
+use crate::numbers::put_two;
+use crate::numbers::size;
+use crate::numbers::size_of_byte;
+use crate::numbers::two_at;
 use feed::Port;
 use frs_queue::Queue;
 use readiness::Cause;
@@ -19,7 +22,9 @@ use readiness::Status;
 use times::Nanos;
 
 // The port's 38 bytes, and 18 for each lent status.
-pub fn image_size(lent: usize) -> usize {
+pub fn image_size(lent: usize) -> usize
+    ensures { λ r. ⌜ r ≤ 614 ⌝ }
+{
     if lent <= 32 { 38 + 18 * lent } else { 614 }
 }
 
@@ -150,7 +155,9 @@ fn status_in(bytes: &[u8], at: usize) -> Status
     Status { phase: phase }
 }
 
-pub fn all_down() -> [Status; 32] {
+pub fn all_down() -> [Status; 32]
+    ensures { λ r. ⌜ r ≡ replicate 32 down ⌝ }
+{
     [Status { phase: Phase::Down }; 32]
 }
 
@@ -207,7 +214,7 @@ fn put_carried(bytes: &mut [u8], carried: [u8; 16], count: usize) {
     }
 }
 
-pub fn put_port(bytes: &mut [u8], port: Port) {
+fn put_port(bytes: &mut [u8], port: Port) {
     let dev = port.dev;
     let carried = port.carried;
     put_dev(&mut *bytes, dev);
@@ -244,11 +251,19 @@ fn put_status(bytes: &mut [u8], at: usize, status: Status)
     }
 }
 
-pub fn put_statuses(bytes: &mut [u8], statuses: [Status; 32]) {
+fn put_statuses(bytes: &mut [u8], statuses: [Status; 32]) {
     let mut i: usize = 0;
     while i < 32 {
         let status = statuses[i];
         put_status(&mut *bytes, 38 + 18 * i, status);
         i += 1;
     }
+}
+
+// The port's bytes and those of 32 statuses.
+pub fn state_bytes(port: Port, statuses: [Status; 32]) -> [u8; 614] {
+    let mut bytes = [0u8; 614];
+    put_port(&mut bytes, port);
+    put_statuses(&mut bytes, statuses);
+    bytes
 }

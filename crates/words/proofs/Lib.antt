@@ -1,0 +1,4 @@
+pub mod Putting
+mod Numerals
+pub mod Laws
+mod Examples

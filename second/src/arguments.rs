@@ -7,7 +7,7 @@ pub struct Arguments {
 }
 
 /// Options without a value.
-const SWITCHES: [&str; 2] = ["--table", "--masks"];
+const SWITCHES: [&str; 4] = ["--table", "--masks", "--compare", "--lengths"];
 
 impl Arguments {
     pub fn read(given: impl Iterator<Item = String>) -> Result<Arguments, String> {

@@ -1,9 +1,12 @@
 //! An independent implementation of the bench, and what holds other programs against it.
 
+mod answers;
 mod arguments;
 mod bench;
+mod card;
 mod compare;
 mod coverage;
+mod fast;
 mod faults;
 mod feed;
 mod fuzz;
@@ -27,6 +30,7 @@ mod setup;
 mod show;
 mod shrink;
 mod sound;
+mod speed;
 mod state;
 mod stream;
 mod times;
@@ -41,12 +45,18 @@ use program::Program;
 
 const USAGE: &str = "usage:
   second run [--fault NAME] < stream > output
+  second answers CARD TRACE [--fault NAME] > answers
   second write --seed S --cases N > stream
   second selfcheck [--seed S] [--cases N]
   second faults [--seed S] [--cases N] [--table | --masks]
   second compare PROGRAM [--seed S] [--cases N] [-- its own words]
   second compare PROGRAM --stream FILE --expect FILE [-- its own words]
-  second fuzz PROGRAM [--seed S] [--rounds N] [-- its own words]";
+  second fuzz PROGRAM [--seed S] [--rounds N] [-- its own words]
+  second bench [--only TRACE] [--records N] [--rounds N] | --compare [--records N] | --lengths
+  second instructions [--only TRACE] [--records N]
+  second memory [--records N]
+  second trace NAME [--records N] CARD TRACE
+  second count proved|rust CARD TRACE PIECE";
 
 /// Whether a command found everything in order, or why it could not run.
 type Verdict = Result<bool, String>;
@@ -69,6 +79,18 @@ fn run_command(arguments: &Arguments) -> Verdict {
         run::Ended::AtItsEnd => Ok(true),
         run::Ended::BadCase => Err("bad case".to_string()),
     }
+}
+
+/// Writes the answers of a trace file on a card file.
+fn answers_command(arguments: &Arguments) -> Verdict {
+    let fault = arguments.text("--fault").map_or(Ok(Fault::None), fault_named)?;
+    let [card, trace] = arguments.words.as_slice() else {
+        return Err(USAGE.to_string());
+    };
+    let setup = card::read(&fs::read(card).map_err(text)?).ok_or("no card")?;
+    let answers = answers::answers(&setup, &fs::read(trace).map_err(text)?, fault);
+    std::io::stdout().lock().write_all(&answers).map_err(text)?;
+    Ok(true)
 }
 
 /// Writes generated cases as a stream.
@@ -125,17 +147,44 @@ fn fuzz_command(arguments: &Arguments) -> Verdict {
     fuzz::fuzz(&program, seed, rounds).map_err(text)
 }
 
+fn records_of(arguments: &Arguments, otherwise: u64) -> Result<usize, String> {
+    Ok(arguments.number("--records", otherwise)? as usize)
+}
+
+/// The proved library beside plain Rust: compared, or timed.
+fn bench_command(arguments: &Arguments) -> Verdict {
+    if arguments.has("--compare") {
+        return speed::compare(records_of(arguments, 20_000)?);
+    }
+    let records = records_of(arguments, 1_000_000)?;
+    let rounds = arguments.number("--rounds", 9)?.max(1) as usize;
+    if arguments.has("--lengths") {
+        return speed::lengths(records / 4, rounds);
+    }
+    speed::time_rows(arguments.text("--only"), records, rounds)
+}
+
+fn instructions_command(arguments: &Arguments) -> Verdict {
+    speed::instructions(arguments.text("--only"), records_of(arguments, 10_000)?)
+}
+
 fn command() -> Verdict {
     let mut given = std::env::args().skip(1);
     let command = given.next().ok_or(USAGE)?;
     let arguments = Arguments::read(given)?;
     match command.as_str() {
         "run" => run_command(&arguments),
+        "answers" => answers_command(&arguments),
         "write" => write_command(&arguments),
         "selfcheck" => selfcheck_command(&arguments),
         "faults" => faults_command(&arguments),
         "compare" => compare_command(&arguments),
         "fuzz" => fuzz_command(&arguments),
+        "bench" => bench_command(&arguments),
+        "instructions" => instructions_command(&arguments),
+        "memory" => speed::memory(records_of(&arguments, 250_000)?),
+        "trace" => speed::write_trace(&arguments.words, records_of(&arguments, 20_000)?),
+        "count" => speed::count(&arguments.words),
         _ => Err(USAGE.to_string()),
     }
 }

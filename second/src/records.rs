@@ -30,7 +30,7 @@ const WRONG_TIME: u8 = 23;
 const WRONG_VALUE: u8 = 24;
 
 /// A record's length with its kind byte, or none for an unknown kind.
-pub fn record_length(kind: u8) -> Option<usize> {
+pub const fn record_length(kind: u8) -> Option<usize> {
     match kind {
         ADVANCE => Some(5),
         READ => Some(4),

@@ -9,7 +9,7 @@ use crate::registers::Table;
 use crate::stream::{put_image, Case, Operation, Source, Trouble};
 
 /// What every answer byte is before a feed.
-const UNTOUCHED: u8 = 0xEE;
+pub const UNTOUCHED: u8 = 0xEE;
 
 /// What an operation gave, beside the bytes written for it.
 pub enum Gave {

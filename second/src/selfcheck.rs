@@ -1,11 +1,13 @@
-//! The model alone over generated cases: soundness is kept, refusals change nothing.
+//! The models alone over generated cases: soundness is kept, refusals change nothing, and the fast model is the plain one.
 
 use std::time::Instant;
 
 use crate::bench::Bench;
 use crate::coverage::{report, Coverage};
+use crate::fast::held;
 use crate::faults::Fault;
 use crate::generate;
+use crate::random::Random;
 use crate::run::{run_operation, Gave};
 use crate::state::State;
 use crate::stream::{put_case, Case};
@@ -38,7 +40,14 @@ pub fn check_case(case: &Case, coverage: &mut Coverage, out: &mut Vec<u8>) -> Re
     Ok(())
 }
 
-/// Runs generated cases on the model alone; true if nothing was wrong and all was reached.
+/// Holds the fast model to the plain one on a case, as it is and damaged.
+fn hold(case: &Case, seed: u64, number: u64) -> Result<(), String> {
+    held::hold(case)?;
+    let damaged = held::damaged(case, &mut Random::for_case(!seed, number));
+    held::hold(&damaged).map_err(|what| format!("damaged, {what}"))
+}
+
+/// Runs generated cases on the two models; true if nothing was wrong and all was reached.
 pub fn selfcheck(seed: u64, cases: u64) -> bool {
     let started = Instant::now();
     let mut coverage = Coverage::new();
@@ -46,7 +55,8 @@ pub fn selfcheck(seed: u64, cases: u64) -> bool {
     let mut stream_bytes = 0;
     for number in 0..cases {
         let case = generate::case(seed, number);
-        if let Err(what) = check_case(&case, &mut coverage, &mut out) {
+        let checked = check_case(&case, &mut coverage, &mut out);
+        if let Err(what) = checked.and_then(|()| hold(&case, seed, number)) {
             println!("seed {seed} case {number}: {what}");
             return false;
         }

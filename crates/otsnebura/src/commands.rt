@@ -1,0 +1,149 @@
+// The commands, by the first argument.
+use crate::help::help;
+use crate::options::Options;
+use crate::options::is_usable;
+use crate::options::options_given;
+use crate::run::run;
+use cards::card_file::Loaded;
+use cards::card_file::load_card;
+use cards::card_shown::show_card;
+use desk::files::close_file;
+use desk::files::open_file;
+use desk::files::overwrite_file;
+use runs::turns::Way;
+use tools::message::message_command;
+use tools::pack::pack;
+use tools::show::show;
+use usage::arguments::arg_count;
+use usage::arguments::arg_is;
+use usage::arguments::bad_usage;
+use usage::outcome::Outcome;
+
+fn show_command() -> Outcome {
+    if arg_count() != 3 {
+        return bad_usage(b"show wants one file, TRACE");
+    }
+    let fd = open_file(2);
+    if fd < 0 {
+        return Outcome::Unusable;
+    }
+    let outcome = show(fd, 2);
+    close_file(fd);
+    outcome
+}
+
+fn pack_command() -> Outcome {
+    if arg_count() != 3 {
+        return bad_usage(b"pack wants one file, HEX");
+    }
+    let fd = open_file(2);
+    if fd < 0 {
+        return Outcome::Unusable;
+    }
+    let outcome = pack(fd, 2);
+    close_file(fd);
+    outcome
+}
+
+fn card_command() -> Outcome {
+    if arg_count() != 3 {
+        return bad_usage(b"card wants one file, CARD");
+    }
+    let mut words = [0u32; 2048];
+    let loaded = load_card(2, &mut words);
+    if loaded.good {
+        return show_card(2, loaded, &words);
+    }
+    loaded.outcome
+}
+
+// ---- Run
+
+// Progress is for a terminal that shows no lines of records.
+fn shows_progress(quiet: bool) -> bool {
+    let out = libc::isatty(libc::STDOUT_FILENO) == 1;
+    (libc::isatty(libc::STDERR_FILENO) == 1) & (quiet | !out)
+}
+
+fn way_of(o: Options, trace: i32, answers: i32) -> Way {
+    Way {
+        trace: trace,
+        answers: answers,
+        quiet: o.quiet,
+        progress: shows_progress(o.quiet),
+    }
+}
+
+// Runs with the answers' file, or -1 for none.
+fn run_to(card: Loaded, words: &[u32], o: Options, trace: i32, answers: i32) -> Outcome {
+    let setup = card.setup;
+    let outcome = run(setup, card.queue, words, o, way_of(o, trace, answers));
+    close_file(answers);
+    outcome
+}
+
+// Runs with answers to a file where one is named.
+fn run_from(card: Loaded, words: &[u32], o: Options, trace: i32) -> Outcome {
+    if o.answers == 0 {
+        return run_to(card, words, o, trace, -1);
+    }
+    let answers = overwrite_file(o.answers);
+    if answers < 0 {
+        return Outcome::Unusable;
+    }
+    run_to(card, words, o, trace, answers)
+}
+
+fn run_card(card: Loaded, words: &[u32], o: Options) -> Outcome {
+    let trace = open_file(o.trace);
+    if trace < 0 {
+        return Outcome::Unusable;
+    }
+    let outcome = run_from(card, words, o, trace);
+    close_file(trace);
+    outcome
+}
+
+fn run_command() -> Outcome {
+    let o = options_given();
+    if !is_usable(o) {
+        return bad_usage(b"run wants CARD and TRACE, and takes --quiet and --answers FILE");
+    }
+    let mut words = [0u32; 2048];
+    let loaded = load_card(o.card, &mut words);
+    if loaded.good {
+        return run_card(loaded, &words, o);
+    }
+    loaded.outcome
+}
+
+// ---- Any command
+
+fn file_command() -> Outcome {
+    if arg_is(1, b"run") {
+        return run_command();
+    }
+    if arg_is(1, b"card") {
+        return card_command();
+    }
+    if arg_is(1, b"show") {
+        return show_command();
+    }
+    if arg_is(1, b"pack") {
+        return pack_command();
+    }
+    bad_usage(b"unknown command: expected run, card, show, pack or message")
+}
+
+pub fn command() -> Outcome {
+    if arg_count() <= 1 {
+        return help();
+    }
+    if arg_is(1, b"--help") | arg_is(1, b"-h") | arg_is(1, b"help") {
+        return help();
+    }
+    if arg_is(1, b"message") {
+        return message_command();
+    }
+    file_command()
+}

@@ -1,0 +1,73 @@
+// The page of help.
+use desk::files::after_printing;
+use desk::files::last_error;
+use usage::outcome::Outcome;
+use usage::outcome::unless_error;
+
+// A line of it; 0, or the error.
+fn say(text: &[u8]) -> i32 {
+    if io::write_all(libc::STDOUT_FILENO, text) {
+        return 0;
+    }
+    last_error()
+}
+
+fn help_commands() {
+    say(b"otsnebura: a proved test bench for PCI Express cards\n\n");
+    say(b"  otsnebura run CARD TRACE [--quiet] [--answers FILE]\n");
+    say(
+        b"                         sets the card up, feeds the trace: a line for each record, and the end\n",
+    );
+    say(b"                         --quiet: the end alone; --answers FILE: the raw answer bytes\n");
+    say(b"  otsnebura card CARD    the card with each time code in ns\n");
+    say(b"  otsnebura show TRACE   the records of a trace in words\n");
+    say(b"  otsnebura pack HEX     hex text, with blanks and # comments, to raw bytes\n");
+    say(b"  otsnebura message read HEX | drs ID | frs ID REASON\n");
+    say(b"                         one 16-byte DRS or FRS, read or written, in hex\n");
+    say(b"  otsnebura --help       this page\n\n");
+}
+
+fn help_trace() {
+    say(b"TRACE is a file of records: one byte of kind, then a body, numbers low byte first.\n\n");
+    say(b"  01 ns(4)                          advance clock\n");
+    say(b"  02 slot word enables              configuration read\n");
+    say(b"  03 slot word enables data(4)      configuration write\n");
+    say(b"  04 message(16)                    a DRS or FRS arrives\n");
+    say(b"  05, 06, 07                        link up, link down, cold reset\n");
+    say(b"  08, 09                            read queue register, remove oldest\n");
+    say(
+        b"  0A bits                           clear status bits (0 Received, 1 Overflow, 2 DRS Received)\n",
+    );
+    say(
+        b"  0B control                        bit 0 CRS visibility, 1 FRS interrupt, 3:2 signalling\n",
+    );
+    say(b"  0C slot word mask(4)              hardware sets register bits\n");
+    say(b"  0D                                read status bits\n\n");
+}
+
+fn help_card() {
+    say(b"CARD is text, one fact a line, # starts a comment:\n\n");
+    say(b"  slots N                           1 to 32, before any slot or word\n");
+    say(b"  queue N                           1 to 4095\n");
+    say(b"  bus HH                            the card's bus number\n");
+    say(b"  port HHHH                         the root port's ID\n");
+    say(b"  slot N reset HHH dlup HHH flr HHH d3hot HHH frs yes|no\n");
+    say(
+        b"                                    codes in hex: value + 200h * scale is value * 32^scale ns\n",
+    );
+    say(b"  word N OFFSET VALUE               a default word, in hex; others are 0\n\n");
+}
+
+fn help_end() -> i32 {
+    say(
+        b"Exit status: 0 done; 1 refused, or a broken or cut trace; 2 bad usage, or a file that can't be read or written.\n",
+    )
+}
+
+pub fn help() -> Outcome {
+    help_commands();
+    help_trace();
+    help_card();
+    let error = after_printing(help_end());
+    unless_error(error, Outcome::Done)
+}

@@ -1,0 +1,158 @@
+// `otsnebura run CARD TRACE`: the card is set up, the trace is fed, and the end is printed.
+use crate::options::Options;
+use cards::refusal::complain_refusal;
+use desk::files::after_printing;
+use desk::files::complain_read;
+use desk::files::complain_write;
+use desk::files::name_file;
+use desk::printing::Waiting;
+use desk::printing::flush;
+use desk::printing::flush_out;
+use desk::trace_file::PIECE;
+use desk::trace_file::complain_fault;
+use readiness::Setup;
+use runs::ending::print_ending;
+use runs::session::Session;
+use runs::session::begin;
+use runs::session::fault_of;
+use runs::session::fault_offset;
+use runs::session::words_of;
+use runs::turns::Turn;
+use runs::turns::Way;
+use runs::turns::end_progress;
+use runs::turns::first_turn;
+use runs::turns::run_all;
+use usage::outcome::Outcome;
+use usage::outcome::unless_error;
+use words::numbers::at_most;
+
+// The answers that wait are written: the error of that, or of an earlier write, 0 where there is none.
+fn close_answers(o: Options, way: Way, answers: &[u8], kept: Waiting) -> i32 {
+    let all = flush(way.answers, answers, kept);
+    if all.error != 0 {
+        name_file(o.answers);
+        complain_write(all.error);
+    }
+    all.error
+}
+
+// The end is printed, and all that waits is written: the error of that, 0 where there is none.
+fn close_printed(setup: Setup, t: Turn, cells: &[u32], printed: &mut [u8]) -> i32 {
+    let session = t.session;
+    let flow = t.flow;
+    let waits = flow.out;
+    let longer = print_ending(&mut *printed, waits, setup.slots, session, cells);
+    let out = flush_out(printed, longer);
+    after_printing(out.error)
+}
+
+fn outcome_of(session: Session) -> Outcome {
+    let fault = fault_of(session);
+    if (session.number != 0) | (fault.count > 0) {
+        return Outcome::Refused;
+    }
+    Outcome::Done
+}
+
+// What is wrong with the trace.
+fn complain_trace(o: Options, session: Session) {
+    let fault = fault_of(session);
+    complain_fault(o.trace, fault_offset(session), fault);
+}
+
+// Everything is written, and what went wrong is said.
+fn close_run(
+    setup: Setup,
+    t: Turn,
+    cells: &[u32],
+    printed: &mut [u8],
+    answers: &[u8],
+    o: Options,
+    way: Way,
+) -> Outcome {
+    let session = t.session;
+    let flow = t.flow;
+    let piece = flow.piece;
+    let kept = flow.kept;
+    end_progress(way, session.offset);
+    let lost = close_answers(o, way, answers, kept);
+    let unprinted = close_printed(setup, t, cells, printed);
+    if piece.error != 0 {
+        complain_read(o.trace, session.offset, piece.error);
+        return Outcome::Unusable;
+    }
+    complain_trace(o, session);
+    unless_error(lost, unless_error(unprinted, outcome_of(session)))
+}
+
+// Runs the trace after a set-up.
+fn run_session(
+    setup: Setup,
+    session: Session,
+    live: &mut [u32],
+    defaults: &[u32],
+    cells: &mut [u32],
+    o: Options,
+    way: Way,
+) -> Outcome {
+    let mut input = [0u8; PIECE];
+    let mut printed = [0u8; PIECE];
+    let mut answers = [0u8; PIECE];
+    let t = run_all(
+        setup,
+        first_turn(session),
+        live,
+        defaults,
+        &mut *cells,
+        &mut input,
+        &mut printed,
+        &mut answers,
+        way,
+    );
+    close_run(setup, t, cells, &mut printed, &answers, o, way)
+}
+
+// Sets the card up over what is lent, and runs the trace.
+fn run_lent(
+    setup: Setup,
+    live: &mut [u32],
+    defaults: &[u32],
+    cells: &mut [u32],
+    o: Options,
+    way: Way,
+) -> Outcome {
+    let session = begin(setup, &mut *live, defaults, &mut *cells);
+    if session.number != 0 {
+        return complain_refusal(o.card, setup, session.number, defaults);
+    }
+    run_session(setup, session, live, defaults, cells, o, way)
+}
+
+// Lends the first words and cells.
+fn lend(
+    setup: Setup,
+    queue: usize,
+    live: &mut [u32],
+    defaults: &[u32],
+    cells: &mut [u32],
+    o: Options,
+    way: Way,
+) -> Outcome {
+    let l = at_most(words_of(setup.slots), live.len());
+    let d = at_most(words_of(setup.slots), defaults.len());
+    let c = at_most(queue, cells.len());
+    run_lent(
+        setup,
+        &mut live[0..l],
+        &defaults[0..d],
+        &mut cells[0..c],
+        o,
+        way,
+    )
+}
+
+pub fn run(setup: Setup, queue: usize, defaults: &[u32], o: Options, way: Way) -> Outcome {
+    let mut live = [0u32; 2048];
+    let mut cells = [0u32; 4095];
+    lend(setup, queue, &mut live, defaults, &mut cells, o, way)
+}

@@ -3,7 +3,7 @@
 use mathlib.Core.Path.{_≡_, refl, ap, _∙_}
 use mathlib.Core.Bool.{Bool, true, false, _&&_, and-false}
 use mathlib.Core.Logic.{⊎-elim}
-use mathlib.Core.List.{List, [], _∷_}
+use mathlib.Core.List.{List}
 use Prim.Native.Nat.{ℕ, zero, suc, _+_, _<_}
 use native.Mathlib.Nat.{eq-or-lt-of-le}
 use native.Mathlib.Numerals.{add-one}
@@ -35,12 +35,6 @@ every-not (suc n) p i l h =
     ⊎-elim
     (λ (e : suc i ≡ suc n). let m : n ≡ i = omega arith in ap (λ (b : Bool). every n p && b) (ap p m ∙ h) ∙ and-false (every n p))
     (λ (b : suc i < suc n). ap (λ (t : Bool). t && p n) (every-not n p i (omega arith) h)) (eq-or-lt-of-le l)
-
--- an element that there is, whatever would stand past the end
-pub getD-any : {A : Type 0} (l : List A) (i : ℕ) (d e : A) → i < length l → getD l i d ≡ getD l i e
-getD-any [] i d e h = absurd (omega arith)
-getD-any (x ∷ l) zero d e h = refl
-getD-any (x ∷ l) (suc i) d e h = getD-any l i d e (omega arith)
 
 -- each of the card's slots, and each live cell
 pub statuses-every : (n : ℕ) (d : Dev) (l : List Status) → soundStatuses n d l ≡ every n (λ i. soundStatus d (statusAt l i))

@@ -1,8 +1,9 @@
 // Records that touch every slot: advance clock, link up, link down, cold reset.
 ghost use mathlib.Core.Path.{_≡_};
-ghost use mathlib.Core.Bool.{false, _&&_};
+ghost use mathlib.Core.Bool.{true, false, _&&_};
 ghost use mathlib.Core.List.{List, []};
-ghost use Prim.Native.Nat.{ℕ};
+ghost use Prim.Native.Nat.{ℕ, _≤_};
+ghost use lib.ListN.{length};
 ghost use Rattle.times.specs.Moments.{sumOf};
 ghost use Rattle.frs_queue.specs.Queue.{noTally};
 ghost use Rattle.readiness.specs.declared.Status.{Status};
@@ -11,19 +12,19 @@ ghost use Rattle.readiness.specs.Status.{allReady};
 ghost use Rattle.readiness.specs.Events.{due};
 ghost use Rattle.records.specs.declared.Record.the-variants as variants;
 ghost use Rattle.records.specs.State.{State, state, cardKind};
-ghost use Rattle.records.specs.Answer.{reply, does, answered};
+ghost use Rattle.records.specs.Answer.{does, answered};
 ghost use Rattle.records.specs.CardRecords.{withClock, advanceEffect, linkUpEffect, linkDownEffect, coldResetEffect};
-ghost use Rattle.records.specs.Parts.{cardRun, cardRan};
+ghost use Rattle.readiness.specs.Phases.{statusesIn};
+ghost use Rattle.records.specs.Parts.{cardEffect, cardRun, cardRan, startedEffect, isRefused};
 use crate::answering::plain_reply;
 use crate::port::root_port;
 use readiness::Dev;
 use readiness::Setup;
-use readiness::Status;
-use records::CardDone;
 use records::Completion;
 use records::PortDone;
 use records::Record;
 use records::Reply;
+use records::Started;
 use registers::Kind;
 use times::Nanos;
 
@@ -35,37 +36,6 @@ fn card_kind(setup: Setup) -> Kind
     ensures { λ r. ⌜ r ≡ cardKind setup ⌝ }
 {
     Kind::Endpoint
-}
-
-// Nothing changes.
-fn refused(dev: Dev, statuses: [Status; 32], completion: Completion) -> CardDone
-    ensures { λ r. ⌜ r ≡ record { dev = dev; statuses = statuses; reply = reply completion noTally 0 } ⌝ }
-{
-    CardDone {
-        dev: dev,
-        statuses: statuses,
-        reply: plain_reply(completion, 0),
-    }
-}
-
-// Before the answer to a record that is done, slots whose ready time is at or before the clock become Ready.
-fn settled(setup: Setup, dev: Dev, statuses: [Status; 32], cells: &mut [u32]) -> CardDone
-    ensures { λ r. ⌜ ((before : State) (live : List ℕ) → cardRan r live (now (cells .exit)) ≡ answered setup before (does (state dev statuses live (now (cells .entry))) noTally 0)) ⌝ }
-{
-    let settled = readiness::settle(setup, statuses, root_port(dev), cells);
-    let after = settled.statuses;
-    let port = settled.port;
-    let dev = port.dev;
-    let tally = port.tally;
-    CardDone {
-        dev: dev,
-        statuses: after,
-        reply: Reply {
-            completion: Completion::Done,
-            tally: tally,
-            data: 0,
-        },
-    }
 }
 
 fn with_clock(dev: Dev, clock: Nanos) -> Dev
@@ -84,14 +54,14 @@ fn with_clock(dev: Dev, clock: Nanos) -> Dev
 }
 
 // Advance clock; 22 if the clock would pass its end.
-fn advance(setup: Setup, dev: Dev, statuses: [Status; 32], cells: &mut [u32], by: Nanos) -> CardDone
-    ensures { λ r. ⌜ ((live : List ℕ) → cardRan r live (now (cells .exit)) ≡ answered setup (state dev statuses live (now (cells .entry))) (advanceEffect by (state dev statuses live (now (cells .entry))))) ⌝ }
+fn advance(dev: Dev, by: Nanos) -> Started
+    ensures { λ r. ⌜ ((statuses : List Status) (live cells : List ℕ) → startedEffect r statuses live cells ≡ advanceEffect by (state dev statuses live cells)) ⌝ }
 {
     let clock = times::sum(dev.clock, by);
     if times::nanos_number(clock) <= CLOCK_END {
-        return settled(setup, with_clock(dev, clock), statuses, cells);
+        return Started::Does(with_clock(dev, clock));
     }
-    refused(dev, statuses, Completion::ClockEnd)
+    Started::Refused(Completion::ClockEnd)
 }
 
 // Advance clock where no slot becomes Ready and no DRS is to be told: the clock alone moves.
@@ -112,77 +82,123 @@ pub fn advance_alone(dev: Dev, by: Nanos) -> PortDone
 }
 
 // Link up: every slot Pending, a DRS is owed; 23 when up.
-fn link_up(setup: Setup, dev: Dev, statuses: [Status; 32], cells: &mut [u32]) -> CardDone
-    ensures { λ r. ⌜ ((live : List ℕ) → cardRan r live (now (cells .exit)) ≡ answered setup (state dev statuses live (now (cells .entry))) (linkUpEffect setup (state dev statuses live (now (cells .entry))))) ⌝ }
+fn link_up(setup: Setup, dev: Dev, phases: &mut [u64]) -> Started
+    requires { ⌜ (setup .slots ≤ 32) × (length (statusesIn (now phases)) ≡ setup .slots) ⌝ }
+    ensures { λ r. ⌜ ((live cells : List ℕ) → startedEffect r (statusesIn (now (phases .exit))) live cells ≡ linkUpEffect setup (state dev (statusesIn (now (phases .entry))) live cells)) ⌝ }
+    ensures { λ r. ⌜ (isRefused r ≡ true → now (phases .exit) ≡ now (phases .entry)) ⌝ }
 {
     if dev.link {
-        return refused(dev, statuses, Completion::WrongState);
+        return Started::Refused(Completion::WrongState);
     }
-    let started = readiness::link_up_statuses(setup, dev, statuses);
-    settled(setup, readiness::after_link_up(dev), started, cells)
+    readiness::start_all(setup, dev, phases);
+    Started::Does(readiness::after_link_up(dev))
 }
 
 // Link down: registers take their link-down reset; 23 when down.
 fn link_down(
     setup: Setup,
     dev: Dev,
-    statuses: [Status; 32],
+    phases: &mut [u64],
     live: &mut [u32],
     defaults: &[u32],
-    cells: &mut [u32],
-) -> CardDone
-    ensures { λ r. ⌜ cardRan r (now (live .exit)) (now (cells .exit)) ≡ answered setup (state dev statuses (now (live .entry)) (now (cells .entry))) (linkDownEffect setup (now (defaults .entry)) (state dev statuses (now (live .entry)) (now (cells .entry)))) ⌝ }
+) -> Started
+    requires { ⌜ length (statusesIn (now phases)) ≡ setup .slots ⌝ }
+    ensures { λ r. ⌜ ((cells : List ℕ) → startedEffect r (statusesIn (now (phases .exit))) (now (live .exit)) cells ≡ linkDownEffect setup (now (defaults .entry)) (state dev (statusesIn (now (phases .entry))) (now (live .entry)) cells)) ⌝ }
+    ensures { λ r. ⌜ (isRefused r ≡ true → (now (phases .exit) ≡ now (phases .entry)) × (now (live .exit) ≡ now (live .entry))) ⌝ }
 {
     if dev.link {
         registers::link_reset_all(card_kind(setup), live, defaults);
-        let stopped = readiness::reset_statuses(setup, statuses);
-        return settled(setup, readiness::after_link_down(dev), stopped, cells);
+        readiness::stop_all(setup, phases);
+        return Started::Does(readiness::after_link_down(dev));
     }
-    refused(dev, statuses, Completion::WrongState)
+    Started::Refused(Completion::WrongState)
 }
 
 // Cold reset: live registers equal the defaults.
 fn cold_reset(
     setup: Setup,
     dev: Dev,
-    statuses: [Status; 32],
+    phases: &mut [u64],
     live: &mut [u32],
     defaults: &[u32],
-    cells: &mut [u32],
-) -> CardDone
-    ensures { λ r. ⌜ cardRan r (now (live .exit)) (now (cells .exit)) ≡ answered setup (state dev statuses (now (live .entry)) (now (cells .entry))) (coldResetEffect setup (now (defaults .entry)) (state dev statuses (now (live .entry)) (now (cells .entry)))) ⌝ }
+) -> Started
+    requires { ⌜ length (statusesIn (now phases)) ≡ setup .slots ⌝ }
+    ensures { λ r. ⌜ ((cells : List ℕ) → startedEffect r (statusesIn (now (phases .exit))) (now (live .exit)) cells ≡ coldResetEffect setup (now (defaults .entry)) (state dev (statusesIn (now (phases .entry))) (now (live .entry)) cells)) ⌝ }
+    ensures { λ r. ⌜ isRefused r ≡ false ⌝ }
 {
     registers::cold_reset(live, defaults);
-    let stopped = readiness::reset_statuses(setup, statuses);
-    settled(setup, readiness::after_cold_reset(dev), stopped, cells)
+    readiness::stop_all(setup, phases);
+    Started::Does(readiness::after_cold_reset(dev))
+}
+
+// What a record that touches every slot does before slots become Ready; another one changes nothing and is answered with 0.
+fn start(
+    setup: Setup,
+    dev: Dev,
+    phases: &mut [u64],
+    live: &mut [u32],
+    defaults: &[u32],
+    record: Record,
+) -> Started
+    requires { ⌜ (setup .slots ≤ 32) × (length (statusesIn (now phases)) ≡ setup .slots) ⌝ }
+    ensures { λ r. ⌜ ((cells : List ℕ) → startedEffect r (statusesIn (now (phases .exit))) (now (live .exit)) cells ≡ cardEffect setup (now (defaults .entry)) «record» (state dev (statusesIn (now (phases .entry))) (now (live .entry)) cells)) ⌝ }
+    ensures { λ r. ⌜ (isRefused r ≡ true → (now (phases .exit) ≡ now (phases .entry)) × (now (live .exit) ≡ now (live .entry))) ⌝ }
+{
+    match record {
+        Record::Advance(by) => advance(dev, by),
+        Record::LinkUp => link_up(setup, dev, phases),
+        Record::LinkDown => link_down(setup, dev, phases, live, defaults),
+        Record::ColdReset => cold_reset(setup, dev, phases, live, defaults),
+        Record::Read(_) => Started::Refused(Completion::Done),
+        Record::Write(_, _) => Started::Refused(Completion::Done),
+        Record::HardwareSet(_, _, _) => Started::Refused(Completion::Done),
+        Record::Message(_) => Started::Refused(Completion::Done),
+        Record::ReadQueue => Started::Refused(Completion::Done),
+        Record::RemoveOldest => Started::Refused(Completion::Done),
+        Record::ClearBits(_) => Started::Refused(Completion::Done),
+        Record::Control(_) => Started::Refused(Completion::Done),
+        Record::ReadBits => Started::Refused(Completion::Done),
+        Record::NoKind => Started::Refused(Completion::Done),
+    }
+}
+
+// Before the answer to a record that is done, slots whose ready time is at or before the clock become Ready.
+fn settled(setup: Setup, dev: Dev, phases: &mut [u64], cells: &mut [u32]) -> PortDone
+    requires { ⌜ (setup .slots ≤ 32) × (length (statusesIn (now phases)) ≡ setup .slots) ⌝ }
+    ensures { λ r. ⌜ ((before : State) (live : List ℕ) → cardRan r (statusesIn (now (phases .exit))) live (now (cells .exit)) ≡ answered setup before (does (state dev (statusesIn (now (phases .entry))) live (now (cells .entry))) noTally 0)) ⌝ }
+{
+    let port = readiness::settle(setup, phases, root_port(dev), cells);
+    let after = port.dev;
+    let tally = port.tally;
+    PortDone {
+        dev: after,
+        reply: Reply {
+            completion: Completion::Done,
+            tally: tally,
+            data: 0,
+        },
+    }
 }
 
 // A record that touches every slot runs; another one is answered with 0 and changes nothing.
 pub fn run_card(
     setup: Setup,
     dev: Dev,
-    statuses: [Status; 32],
+    phases: &mut [u64],
     live: &mut [u32],
     defaults: &[u32],
     cells: &mut [u32],
     record: Record,
-) -> CardDone
-    ensures { λ r. ⌜ cardRan r (now (live .exit)) (now (cells .exit)) ≡ cardRun setup (now (defaults .entry)) «record» (state dev statuses (now (live .entry)) (now (cells .entry))) ⌝ }
+) -> PortDone
+    requires { ⌜ (setup .slots ≤ 32) × (length (statusesIn (now phases)) ≡ setup .slots) ⌝ }
+    ensures { λ r. ⌜ cardRan r (statusesIn (now (phases .exit))) (now (live .exit)) (now (cells .exit)) ≡ cardRun setup (now (defaults .entry)) «record» (state dev (statusesIn (now (phases .entry))) (now (live .entry)) (now (cells .entry))) ⌝ }
 {
-    match record {
-        Record::Advance(by) => advance(setup, dev, statuses, cells, by),
-        Record::LinkUp => link_up(setup, dev, statuses, cells),
-        Record::LinkDown => link_down(setup, dev, statuses, live, defaults, cells),
-        Record::ColdReset => cold_reset(setup, dev, statuses, live, defaults, cells),
-        Record::Read(_) => refused(dev, statuses, Completion::Done),
-        Record::Write(_, _) => refused(dev, statuses, Completion::Done),
-        Record::HardwareSet(_, _, _) => refused(dev, statuses, Completion::Done),
-        Record::Message(_) => refused(dev, statuses, Completion::Done),
-        Record::ReadQueue => refused(dev, statuses, Completion::Done),
-        Record::RemoveOldest => refused(dev, statuses, Completion::Done),
-        Record::ClearBits(_) => refused(dev, statuses, Completion::Done),
-        Record::Control(_) => refused(dev, statuses, Completion::Done),
-        Record::ReadBits => refused(dev, statuses, Completion::Done),
-        Record::NoKind => refused(dev, statuses, Completion::Done),
+    let started = start(setup, dev, &mut *phases, &mut *live, defaults, record);
+    match started {
+        Started::Refused(completion) => PortDone {
+            dev: dev,
+            reply: plain_reply(completion, 0),
+        },
+        Started::Does(after) => settled(setup, after, phases, cells),
     }
 }

@@ -1,8 +1,11 @@
 // Records that touch the root port alone: message, queue register, remove oldest, status bits, control.
 ghost use mathlib.Core.Path.{_≡_};
+ghost use mathlib.Core.Bool.{true};
 ghost use mathlib.Core.List.{List};
 ghost use Prim.Native.Nat.{ℕ};
 ghost use Rattle.frs_queue.specs.Queue.{noTally};
+ghost use Rattle.messages.specs.declared.Message.the-variants as message;
+ghost use Rattle.records.specs.declared.Record.the-variants as variants;
 ghost use Rattle.records.specs.declared.Completion.the-variants as completion;
 ghost use Rattle.records.specs.Answer.{reply};
 ghost use Rattle.records.specs.PortRecords.{front, messageDone, messageEffect, withQueue, withControl, clearedDev, controlOf, controlEffect, statusBits};
@@ -18,6 +21,7 @@ use readiness::Dev;
 use readiness::RootPort;
 use records::Completion;
 use records::PortDone;
+use records::QueueDone;
 use records::Record;
 use records::Reply;
 
@@ -71,6 +75,24 @@ fn receive(port_id: u16, dev: Dev, cells: &mut [u32], message: Message) -> PortD
             };
             received(readiness::frs_arrives(root_port(dev), cells, frs))
         }
+    }
+}
+
+// An FRS arrives by a message, with the link up.
+pub fn receive_frs(dev: Dev, cells: &mut [u32], frs: Frs) -> QueueDone
+    ensures { λ r. ⌜ ((id : ℕ) → dev .link ≡ true → portRun id (variants.Message (message.Frs (frs .id) (frs .reason))) (front dev (now (cells .entry))) ≡ record { after = front (withQueue dev (r .queue)) (now (cells .exit)); reply = r .reply }) ⌝ }
+{
+    let queue = dev.queue;
+    let arrival = frs_queue::arrive(queue, no_tally(), dev.control.frs_interrupt, cells, frs);
+    let after = arrival.queue;
+    let tally = arrival.tally;
+    QueueDone {
+        queue: after,
+        reply: Reply {
+            completion: Completion::Done,
+            tally: tally,
+            data: 0,
+        },
     }
 }
 

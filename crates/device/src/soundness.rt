@@ -7,14 +7,16 @@ ghost use lib.Dec.{ltb, leb};
 ghost use lib.ListN.{length, getD};
 ghost use Rattle.times.specs.Codes.{greatestTime};
 ghost use Rattle.frs_queue.specs.Queue.{placeOf};
+ghost use Rattle.readiness.specs.declared.Setup.{Setup};
+ghost use Rattle.readiness.specs.Phases.{statusesIn};
 ghost use Rattle.records.specs.State.{state};
 ghost use Rattle.records.specs.Sound.{soundCause, soundPhase, matchesLink, soundStatus, soundStatuses, soundCells, soundOwed, sound};
 use crate::card::CLOCK_END;
 use readiness::Cause;
 use readiness::Dev;
 use readiness::Phase;
-use readiness::Setup;
 use readiness::Status;
+use readiness::phases::status_at;
 use times::Nanos;
 
 // The time of the greatest code.
@@ -73,13 +75,13 @@ fn sound_status(dev: Dev, status: Status) -> bool
 }
 
 // Each of the card's slots.
-fn sound_statuses(slots: usize, dev: Dev, statuses: [Status; 32]) -> bool
-    requires { ⌜ slots ≤ 32 ⌝ }
-    ensures { λ r. ⌜ r ≡ soundStatuses slots dev statuses ⌝ }
+fn sound_statuses(slots: usize, dev: Dev, phases: &[u64]) -> bool
+    requires { ⌜ length (statusesIn (now phases)) ≡ slots ⌝ }
+    ensures { λ r. ⌜ r ≡ soundStatuses slots dev (statusesIn (now (phases .entry))) ⌝ }
 {
     let mut i = 0;
     while i < slots {
-        let status = statuses[i];
+        let status = status_at(phases, i);
         if sound_status(dev, status) {
             i += 1;
         } else {
@@ -119,20 +121,21 @@ fn sound_cells(depth: usize, cells: &[u32], start: usize) -> bool
 }
 
 // A DRS isn't owed with the link down, nor with every slot Ready.
-fn sound_owed(dev: Dev, statuses: [Status; 32]) -> bool
-    ensures { λ r. ⌜ r ≡ soundOwed dev statuses ⌝ }
+fn sound_owed(dev: Dev, slots: usize, phases: &[u64]) -> bool
+    requires { ⌜ length (statusesIn (now phases)) ≡ slots ⌝ }
+    ensures { λ r. ⌜ r ≡ soundOwed dev (statusesIn (now (phases .entry))) ⌝ }
 {
     if dev.owed {
-        dev.link & !readiness::all_ready(statuses)
+        dev.link & !readiness::all_ready(slots, phases)
     } else {
         true
     }
 }
 
 // The test for refusal 5.
-pub fn is_sound(setup: Setup, dev: Dev, statuses: [Status; 32], cells: &[u32]) -> bool
-    requires { ⌜ setup .slots ≤ 32 ⌝ }
-    ensures { λ r. ⌜ ((live : List ℕ) → r ≡ sound setup (state dev statuses live (now (cells .entry)))) ⌝ }
+pub fn is_sound(slots: usize, dev: Dev, phases: &[u64], cells: &[u32]) -> bool
+    requires { ⌜ length (statusesIn (now phases)) ≡ slots ⌝ }
+    ensures { λ r. ⌜ ((setup : Setup) (live : List ℕ) → setup .slots ≡ slots → r ≡ sound setup (state dev (statusesIn (now (phases .entry))) live (now (cells .entry)))) ⌝ }
 {
     let queue = dev.queue;
     let control = dev.control;
@@ -149,6 +152,6 @@ pub fn is_sound(setup: Setup, dev: Dev, statuses: [Status; 32], cells: &[u32]) -
     }
     sound_cells(depth, cells, start)
         & (control.signalling <= 2)
-        & sound_statuses(setup.slots, dev, statuses)
-        & sound_owed(dev, statuses)
+        & sound_statuses(slots, dev, phases)
+        & sound_owed(dev, slots, phases)
 }

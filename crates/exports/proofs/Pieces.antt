@@ -96,7 +96,7 @@ module _ (setup : Setup) (defaults : List ℕ) (size : ℕ) where
       ∙ goes (length t) number h t a y
       ∙ ap (then x) (same-calls (length t) (length (drop (x .consumed) t)) (x .number) (x .held) (drop (x .consumed) t) (drop (x .written) (x .answers)) (λ q. omega (arith, length-drop (x .consumed) t)) (λ q. omega arith))
 
-  stop : (number : ℕ) (h : Held) (t a : List ℕ) → (number ≡ 0 → length t ≤ 0) → inPieces setup defaults size number h t a ≡ unchanged h a number
+  pub stop : (number : ℕ) (h : Held) (t a : List ℕ) → (number ≡ 0 → length t ≤ 0) → inPieces setup defaults size number h t a ≡ unchanged h a number
   unfolding inPieces
   stop number h t a e = stops (length t) number h t a (none number t e)
 

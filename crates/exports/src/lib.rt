@@ -21,6 +21,8 @@ use readiness::Control;
 use readiness::Dev;
 use readiness::Setup;
 use readiness::Status;
+use readiness::phases::in_numbers;
+use readiness::phases::in_statuses;
 
 // The card's text is refused.
 const BAD_CARD: u64 = 100;
@@ -61,11 +63,9 @@ fn all_fed(number: u8, consumed: usize, written: usize, port: Port, statuses: [S
     }
 }
 
-// Feeds the trace piece by piece after a call that gave `first`, until one gives a number or the trace ends; the counts are those
-// of all calls.
+// Feeds the trace piece by piece, until a call gives a number or the trace ends; the counts are those of all calls.
 fn feed_pieces(
     setup: Setup,
-    first: u8,
     start: Port,
     begun: [Status; 32],
     live: &mut [u32],
@@ -75,21 +75,22 @@ fn feed_pieces(
     size: usize,
     answers: &mut [u8],
 ) -> Fed
+    requires { ⌜ setup .slots ≤ 32 ⌝ }
     ensures { λ r. ⌜ left (setup .slots) r (now (live .exit)) (now (cells .exit)) (now (answers .exit))
-        ≡ inPieces setup (now (defaults .entry)) size first (held start (lentOf (setup .slots) begun) (now (live .entry)) (now (cells .entry))) (now (trace .entry)) (now (answers .entry)) ⌝ }
+        ≡ inPieces setup (now (defaults .entry)) size 0 (held start (lentOf (setup .slots) begun) (now (live .entry)) (now (cells .entry))) (now (trace .entry)) (now (answers .entry)) ⌝ }
 {
     let mut port = start;
-    let mut statuses = begun;
-    let mut number = first;
+    let mut phases = in_numbers(begun);
+    let places = 3 * setup.slots;
+    let mut number: u8 = 0;
     let mut consumed: usize = 0;
     let mut written: usize = 0;
     while consumed < trace.len() && number == 0 {
         let end = consumed + next_piece(size, trace.len() - consumed);
-        let fed = feed::feed(
+        let fed = feed::feed_in_place(
             setup,
             port,
-            statuses,
-            setup.slots,
+            &mut phases[0..places],
             &mut *live,
             defaults,
             &mut *cells,
@@ -97,12 +98,11 @@ fn feed_pieces(
             &mut answers[written..],
         );
         port = fed.port;
-        statuses = fed.statuses;
         number = fed.number;
         consumed += fed.consumed;
         written += fed.written;
     }
-    all_fed(number, consumed, written, port, statuses)
+    all_fed(number, consumed, written, port, in_statuses(phases))
 }
 
 // A device and a port with every number 0 and every bit off.
@@ -163,9 +163,11 @@ fn run_over(
     );
     let port = made.port;
     let statuses = made.statuses;
+    if made.number != 0 {
+        return all_fed(made.number, 0, 0, port, statuses);
+    }
     feed_pieces(
         setup,
-        made.number,
         port,
         statuses,
         live,

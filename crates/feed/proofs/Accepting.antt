@@ -1,10 +1,11 @@
 -- What is refused before a byte is looked at, as code finds it; and what a call that is not refused can rely on.
 -- Assumes nothing.
-use Prim.Native.Nat.{ℕ, zero, suc, _-_, _≤_, _<_}
+use Prim.Native.Nat.{ℕ, zero, suc, _≤_, _<_}
 use mathlib.Core.Path.{_≡_, refl, ap, sym, _∙_}
-use mathlib.Core.Bool.{Bool, true, false, _&&_}
-use mathlib.Core.List.{List, _++_}
-use lib.ListN.{length, take, replicate}
+use mathlib.Core.Bool.{Bool, true, false, _&&_, cond}
+use mathlib.Core.List.{List, [], _∷_}
+use native.Mathlib.Omega.{arith}
+use lib.ListN.{length}
 use lib.Dec.{leb}
 use borrow.Author.Tests.{leb-true}
 use Rattle.bits.proofs.Tests.{both-left, both-right}
@@ -12,29 +13,26 @@ use Rattle.times.specs.Codes.{allowed}
 use Rattle.trace.specs.Format.{begun}
 use Rattle.trace.specs.Lent.{refusal, refusalOr31}
 use Rattle.trace.proofs.Refusing.{refusal-set-up, refusal-unsound, refusal-none, refusal-accepted, stops-refused, stops-broken, stops-not, goes-on}
-use Rattle.readiness.specs.declared.Status.{Status}
 use Rattle.readiness.specs.declared.Slot.{Slot}
 use Rattle.readiness.specs.declared.Setup.{Setup}
-use Rattle.readiness.specs.Status.{ready, entryOf}
-use Rattle.records.specs.State.{state}
+use Rattle.readiness.specs.Status.{entryOf}
 use Rattle.records.specs.Sound.{sound}
 use Rattle.records.proofs.SoundFacts.{sound-facts, exact-fits}
 use Rattle.records.proofs.Kept.{CodesAllowed, SoundSetup, keeps-itself}
-use Rattle.records.proofs.Padded.{padded-sound}
-use Rattle.feed.specs.declared.Port.{Port}
-use Rattle.feed.specs.Held.{Held, held, lentOf, stateOf, carriedOf}
-use Rattle.feed.specs.Refusals.{codesAllowed, allCodesAllowed, setUpRefusal, soundCarried, soundHeld}
+use Rattle.feed.specs.Held.{Held, stateOf, carriedOf}
+use Rattle.feed.specs.Refusals.{lengthsFit, queueFits, codesAllowed, allCodesAllowed, allDefaultsAllowed, firstFailed, setUpTests, setUpRefusal, soundCarried, soundHeld}
 use Rattle.feed.specs.Feeding.{bench}
-use Rattle.feed.proofs.Lent.{lent-take}
 use Rattle.feed.proofs.Refusals.{every-at, Fits, fits-of, SetUpFits, set-up-fits}
 use Rattle.feed.proofs.Running.{Good}
 
--- ---- the test of the statuses, on the array that is Ready past them
-pub sound-padded : (setup : Setup) (port : Port) (n : ℕ) (array s : List Status) (live cells : List ℕ) → n ≤ length array → s ≡ take n array ++ replicate (32 - n) ready
-    → sound setup (state (port .dev) s live cells) ≡ sound setup (stateOf (held port (lentOf n array) live cells))
-sound-padded setup port n array s live cells h e =
-    ap (λ (l : List Status). sound setup (state (port .dev) l live cells)) (e ∙ ap (λ (l : List Status). l ++ replicate (32 - n) ready) (sym (lent-take n array h)))
-    ∙ padded-sound setup (32 - n) (stateOf (held port (lentOf n array) live cells))
+-- ---- more statuses than a card can have slots
+pub too-many : (setup : Setup) (defaults : List ℕ) (h : Held) → 32 < length (h .statuses) → 1 ≡ setUpRefusal setup defaults h
+unfolding setUpRefusal setUpTests firstFailed
+too-many setup defaults h m = by (lengthsFit (setup .slots) (length (h .statuses)) (length (h .live)) (length defaults)) refl
+  where
+    by : (b : Bool) → lengthsFit (setup .slots) (length (h .statuses)) (length (h .live)) (length defaults) ≡ b → 1 ≡ setUpRefusal setup defaults h
+    by true e = let f = fits-of _ _ _ _ e in absurd (omega (arith, f .most, f .perSlot))
+    by false e = sym (ap (λ (b : Bool). cond b (firstFailed (record { number = 2; holds = queueFits (length (h .cells)) } ∷ record { number = 3; holds = allCodesAllowed setup } ∷ record { number = 4; holds = allDefaultsAllowed setup defaults } ∷ [])) 1) e)
 
 -- ---- the first number that applies
 module _ (setup : Setup) (defaults : List ℕ) (h : Held) where

@@ -1,11 +1,11 @@
 -- Records that take their turn apart: those that touch one slot, and an advance before any slot becomes Ready; and moments before which none does.
 -- Assumes nothing.
-use Prim.Native.Nat.{ℕ, _-_, _<_}
+use Prim.Native.Nat.{ℕ, _<_}
 use native.Mathlib.Omega.{arith}
 use mathlib.Core.Path.{_≡_, refl, sym, ap, _∙_, subst}
 use mathlib.Core.Bool.{Bool, true, false, not, _&&_, _||_, cond}
 use mathlib.Core.List.{List, [], _∷_}
-use lib.ListN.{getD, set}
+use lib.ListN.{set}
 use lib.Dec.{ltb}
 use lib.Seq.{set-getD}
 use borrow.Author.Tests.{lt-ltb}
@@ -17,23 +17,25 @@ use Rattle.readiness.specs.declared.Phase.the-variants.{Down, Pending, Ready}
 use Rattle.readiness.specs.declared.Status.{Status}
 use Rattle.readiness.specs.declared.Setup.{Setup}
 use Rattle.readiness.specs.declared.Dev.{Dev}
-use Rattle.readiness.specs.Status.{allReady, entryOf}
+use Rattle.readiness.specs.Status.{ready, allReady, entryOf}
 use Rattle.readiness.specs.Events.{due}
 use Rattle.readiness.specs.Earliest.{readyTime, PhaseFrom, ReadyFrom}
-use Rattle.readiness.proofs.Bounds.{bound-quiet, bound-set, bound-least, bound-unpadded}
+use Rattle.readiness.proofs.Bounds.{bound-quiet, bound-set, bound-least}
 use Rattle.records.specs.declared.Record.{Record}
-use Rattle.records.specs.declared.Record.the-variants.{Advance}
+use Rattle.frs_queue.specs.declared.Queue.{Queue}
+use Rattle.messages.specs.declared.Message.the-variants.{Frs}
+use Rattle.records.specs.declared.Record.the-variants.{Advance, Message}
 use Rattle.records.specs.declared.Reply.{Reply}
 use Rattle.records.specs.declared.Part.the-variants.{OneSlot, PortAlone, WholeCard}
 use Rattle.records.specs.declared.SlotDone.{SlotDone}
 use Rattle.records.specs.declared.PortDone.{PortDone}
-use Rattle.records.specs.State.{State, Seat, state, seat, kindOf}
+use Rattle.records.specs.State.{State, Seat, state, statusAt, seat, kindOf}
+use Rattle.records.specs.PortRecords.{Front, front, withQueue}
 use Rattle.records.specs.Answer.{Ran}
 use Rattle.records.specs.Run.{run}
-use Rattle.records.specs.Parts.{partAt, partOf, slotRun, slotRan, cardRun}
+use Rattle.records.specs.Parts.{partAt, partOf, slotRun, slotRan, portRun, cardRun}
 use Rattle.records.proofs.Parted.{run-card}
-use Rattle.feed.specs.Held.{lentOf}
-use Rattle.feed.proofs.Running.{Good, Pads, Runs, slot-runs}
+use Rattle.feed.proofs.Running.{Good, Runs, slot-runs, port-runs}
 
 -- ---- moments before which no slot becomes Ready
 -- the first moment is one
@@ -68,36 +70,43 @@ owed-rests true false true e = sym e
 pub at-slot : (slots i : ℕ) → i < slots → partAt slots i ≡ OneSlot i
 at-slot slots i h = ap (λ (b : Bool). cond b (OneSlot i) PortAlone) (lt-ltb i slots h)
 
-module _ (k : Setup) (defaults : List ℕ) (n : ℕ) (array : List Status) (dev : Dev) (live cells : List ℕ) (r : Record) where
+module _ (k : Setup) (defaults : List ℕ) (dev : Dev) (statuses : List Status) (live cells : List ℕ) (r : Record) where
   abbrev present : State
-  present = state dev (lentOf n array) live cells
+  present = state dev statuses live cells
 
-  module _ (s₀ : State) (g : Good k defaults s₀ present) (p : Pads n array) where
+  module _ (s₀ : State) (g : Good k defaults s₀ present) where
     -- a record that touches one slot
-    pub one-runs : n ≡ k .slots → (i : ℕ) (z : Record) → r ≡ z → partOf (k .slots) z ≡ OneSlot i → (d : Status) (x : SlotDone) (live′ cells′ : List ℕ)
-        → slotRan x live′ cells′ ≡ slotRun (k .slots) (kindOf k i) (k .bus) (entryOf k i) defaults i z (seat dev (getD array i d) live cells)
-        → Runs k defaults n array dev live cells r (state (x .dev) (lentOf n (set array i (x .status))) live′ cells′) (x .reply)
-    one-runs f i z e o d x live′ cells′ y =
-        slot-runs k defaults n array dev live cells r s₀ g p f i (ap (partOf (k .slots)) e ∙ o) d x live′ cells′
-        (y ∙ ap (λ (z : Record). slotRun (k .slots) (kindOf k i) (k .bus) (entryOf k i) defaults i z (seat dev (getD array i d) live cells)) (sym e))
+    pub one-runs : (i : ℕ) (z : Record) → r ≡ z → partOf (k .slots) z ≡ OneSlot i → (x : SlotDone) (live′ cells′ : List ℕ)
+        → slotRan x live′ cells′ ≡ slotRun (k .slots) (kindOf k i) (k .bus) (entryOf k i) defaults i z (seat dev (statusAt statuses i) live cells)
+        → Runs k defaults dev statuses live cells r (state (x .dev) (set statuses i (x .status)) live′ cells′) (x .reply)
+    one-runs i z e o x live′ cells′ y =
+        slot-runs k defaults dev statuses live cells r s₀ g i (ap (partOf (k .slots)) e ∙ o) x live′ cells′
+        (y ∙ ap (λ (z : Record). slotRun (k .slots) (kindOf k i) (k .bus) (entryOf k i) defaults i z (seat dev (statusAt statuses i) live cells)) (sym e))
 
     -- one that leaves its status and the root port
-    pub still-runs : n ≡ k .slots → (i : ℕ) (z : Record) → r ≡ z → partOf (k .slots) z ≡ OneSlot i → (d : Status) (a : Reply) (live′ : List ℕ)
-        → _≡_ {A = Ran Seat} (slotRun (k .slots) (kindOf k i) (k .bus) (entryOf k i) defaults i z (seat dev (getD array i d) live cells))
-        (record { after = seat dev (getD array i d) live′ cells; reply = a })
-        → Runs k defaults n array dev live cells r (state dev (lentOf n array) live′ cells) a
-    still-runs f i z e o d a live′ y =
-        subst (λ (l : List Status). Runs k defaults n array dev live cells r (state dev (lentOf n l) live′ cells) a) (set-getD array i d)
-        (one-runs f i z e o d (record { dev = dev; status = getD array i d; reply = a }) live′ cells (sym y))
+    pub still-runs : (i : ℕ) (z : Record) → r ≡ z → partOf (k .slots) z ≡ OneSlot i → (a : Reply) (live′ : List ℕ)
+        → _≡_ {A = Ran Seat} (slotRun (k .slots) (kindOf k i) (k .bus) (entryOf k i) defaults i z (seat dev (statusAt statuses i) live cells))
+        (record { after = seat dev (statusAt statuses i) live′ cells; reply = a })
+        → Runs k defaults dev statuses live cells r (state dev statuses live′ cells) a
+    still-runs i z e o a live′ y =
+        subst (λ (l : List Status). Runs k defaults dev statuses live cells r (state dev l live′ cells) a) (set-getD statuses i ready)
+        (one-runs i z e o (record { dev = dev; status = statusAt statuses i; reply = a }) live′ cells (sym y))
+
+    -- an FRS that arrives by a message
+    pub frs-runs : (id reason : ℕ) → r ≡ Message (Frs id reason) → (q : Queue) (a : Reply) (cells′ : List ℕ)
+        → _≡_ {A = Ran Front} (portRun (k .«port_id») (Message (Frs id reason)) (front dev cells)) (record { after = front (withQueue dev q) cells′; reply = a })
+        → Runs k defaults dev statuses live cells r (state (withQueue dev q) statuses live cells′) a
+    frs-runs id reason e q a cells′ y =
+        port-runs k defaults dev statuses live cells r s₀ g (ap (partOf (k .slots)) e) (record { dev = withQueue dev q; reply = a }) cells′
+        (sym y ∙ ap (λ (z : Record). portRun (k .«port_id») z (front dev cells)) (sym e))
 
     -- an advance to a moment before which no slot becomes Ready
-    pub clock-runs : (bound : Nanos) → ReadyFrom bound array → (by : Nanos) → r ≡ Advance by → sumOf (dev .clock) by .0 < bound .0 → (x : PortDone)
-        → (due (sumOf (dev .clock) by) (lentOf n array) ≡ [] → (dev .owed && allReady (lentOf n array)) ≡ false
-        → cardRun k defaults (Advance by) present ≡ record { after = state (x .dev) (lentOf n array) live cells; reply = x .reply })
-        → Runs k defaults n array dev live cells r (state (x .dev) (lentOf n array) live cells) (x .reply)
+    pub clock-runs : (bound : Nanos) → ReadyFrom bound statuses → (by : Nanos) → r ≡ Advance by → sumOf (dev .clock) by .0 < bound .0 → (x : PortDone)
+        → (due (sumOf (dev .clock) by) statuses ≡ [] → (dev .owed && allReady statuses) ≡ false
+        → cardRun k defaults (Advance by) present ≡ record { after = state (x .dev) statuses live cells; reply = x .reply })
+        → Runs k defaults dev statuses live cells r (state (x .dev) statuses live cells) (x .reply)
     clock-runs bound b by e h x c =
         let y = run-card k defaults present r (ap (partOf (k .slots)) e)
         ∙ ap (λ (z : Record). cardRun k defaults z present) e
-        ∙ c (bound-quiet bound (sumOf (dev .clock) by) (lentOf n array) (bound-unpadded bound (lentOf n array) (32 - n) (subst (ReadyFrom bound) (p .past) b)) h)
-        (owed-rests (dev .owed) (dev .link) (allReady (lentOf n array)) (g .kept .sound .owed)) in
+        ∙ c (bound-quiet bound (sumOf (dev .clock) by) statuses b h) (owed-rests (dev .owed) (dev .link) (allReady statuses) (g .kept .sound .owed)) in
         record { after = sym (ap (λ (z : Ran State). z .after) y); reply = sym (ap (λ (z : Ran State). z .reply) y) }

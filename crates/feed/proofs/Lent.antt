@@ -1,6 +1,6 @@
--- Laws of statuses as they are lent: the first n of an array, and arrays that are Ready past them.
+-- Laws of statuses as they are lent: the first n of an array; and lists that are filled.
 -- Assumes nothing.
-use Prim.Native.Nat.{ℕ, zero, suc, _+_, _-_, _≤_, _<_}
+use Prim.Native.Nat.{ℕ, zero, suc, _+_, _-_, _*_, _≤_, _<_}
 use mathlib.Core.Path.{_≡_, refl, ap, ap₂, sym, _∙_}
 use mathlib.Core.Bool.{cond}
 use mathlib.Core.List.{List, [], _∷_, _++_, append-nil, append-assoc}
@@ -8,10 +8,17 @@ use native.Mathlib.Omega.{arith}
 use native.Mathlib.Numerals.{add-one}
 use lib.Dec.{ltb}
 use lib.ListN.{length, getD, take, drop, set, replicate, length-append, length-take, length-replicate, take-append-drop, drop-of-length-le, replicate-append-replicate}
-use lib.Seq.{length-take-le, drop-cons, set-at}
+use lib.Seq.{length-take-le, take-at, drop-cons, set-at}
 use Rattle.readiness.specs.declared.Status.{Status}
 use Rattle.readiness.specs.Status.{ready, eachFrom}
-use Rattle.feed.specs.Held.{lentOf}
+use Rattle.readiness.specs.Phases.{statusesIn}
+use Rattle.readiness.proofs.PhaseNumbers.{statuses-length, statuses-take}
+use Rattle.trace.specs.Lent.{Left}
+use Rattle.readiness.specs.declared.Setup.{Setup}
+use Rattle.feed.specs.declared.Port.{Port}
+use Rattle.feed.specs.declared.FedPort.{FedPort}
+use Rattle.feed.specs.Held.{Held, held, lentOf}
+use Rattle.feed.specs.Feeding.{feeds, leftInPlace}
 
 -- as many as are lent
 pub length-lent : (n : ℕ) (l : List Status) → length (lentOf n l) ≡ n
@@ -22,6 +29,30 @@ pub lent-take : (n : ℕ) (l : List Status) → n ≤ length l → lentOf n l �
 lent-take n l h =
     let z : n - length (take n l) ≡ 0 = omega (arith, length-take-le n l h) in
     ap (λ (m : ℕ). take n l ++ replicate m ready) z ∙ append-nil (take n l)
+
+-- lent as numbers, three to a status
+pub lent-numbers : (n k : ℕ) (l : List ℕ) → k ≡ 3 * n → k ≤ length l → statusesIn (take k l) ≡ lentOf n (statusesIn l)
+lent-numbers n k l e h =
+    ap (λ (j : ℕ). statusesIn (take j l)) e ∙ statuses-take n l ∙ sym (lent-take n (statusesIn l) (omega (arith, statuses-length l)))
+
+-- what stands after them doesn't matter
+pub numbers-lent : (n : ℕ) (l m : List ℕ) → length l ≡ 3 * n → lentOf n (statusesIn (l ++ m)) ≡ statusesIn l
+numbers-lent n l m e =
+    sym (lent-numbers n (3 * n) (l ++ m) refl (omega (arith, length-append l m))) ∙ ap statusesIn (take-at l m (3 * n) e)
+
+-- a call that changes the lent numbers in place is a call on the lent statuses
+pub in-place-lent : (setup : Setup) (defaults : List ℕ) (n k : ℕ) (phases : List ℕ) (port : Port) (live cells input answers : List ℕ) (r : FedPort) (lent′ after live′ cells′ answers′ : List ℕ)
+    → k ≡ 3 * n → k ≤ length phases → length lent′ ≡ k
+    → leftInPlace r lent′ live′ cells′ answers′ ≡ feeds setup defaults (held port (statusesIn (take k phases)) live cells) input answers
+    → _≡_ {A = Left Held}
+    (record { number = r .number; consumed = r .consumed; written = r .written; held = held (r .port) (lentOf n (statusesIn (lent′ ++ after))) live′ cells′; answers = answers′ })
+    (feeds setup defaults (held port (lentOf n (statusesIn phases)) live cells) input answers)
+in-place-lent setup defaults n k phases port live cells input answers r lent′ after live′ cells′ answers′ e h m x =
+    ap {B = Left Held}
+    (λ (l : List Status). record { number = r .number; consumed = r .consumed; written = r .written; held = held (r .port) l live′ cells′; answers = answers′ })
+    (numbers-lent n lent′ after (m ∙ e))
+    ∙ x
+    ∙ ap (λ (l : List Status). feeds setup defaults (held port l live cells) input answers) (lent-numbers n k phases e h)
 
 -- a status for each slot, of the first n
 each-take : (j m n : ℕ) (f : ℕ → Status) (l : List Status) → take n (eachFrom j m f l) ≡ eachFrom j m f (take n l)

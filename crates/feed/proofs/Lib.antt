@@ -6,6 +6,7 @@ pub mod Running
 pub mod Accepting
 pub mod Looping
 pub mod Fields
+pub mod Whole
 pub mod Direct
 pub mod Numbers
 pub mod Prepared

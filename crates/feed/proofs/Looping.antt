@@ -8,7 +8,7 @@ use native.Mathlib.Omega.{arith}
 use lib.ListN.{length, take, drop, length-append, length-drop}
 use lib.Seq.{paste, length-take-le}
 use lib.Dec.{eqb}
-use Rattle.trace.specs.Format.{Bytes, pad, begun, next}
+use Rattle.trace.specs.Format.{Bytes, pad, longest, begun, next}
 use Rattle.trace.specs.Feed.{Gathered as GatheredBytes, gathered}
 use Rattle.trace.specs.Lent.{Left, refusalOr31}
 use Rattle.trace.proofs.Loop.{Got, got-count, Ends, Found, by-gather, Inv, begins, turns, reach, finish}
@@ -17,42 +17,70 @@ use Rattle.readiness.specs.declared.Status.{Status}
 use Rattle.readiness.specs.declared.Setup.{Setup}
 use Rattle.readiness.specs.declared.Dev.{Dev}
 use Rattle.records.specs.declared.Record.{Record}
+use Rattle.records.specs.declared.Record.the-variants.{Advance, Read, Write, Message, LinkUp, LinkDown, ColdReset, ReadQueue, RemoveOldest, ClearBits, Control, HardwareSet, ReadBits, NoKind}
 use Rattle.records.specs.declared.Reply.{Reply}
 use Rattle.records.specs.State.{State, state}
 use Rattle.records.specs.Decode.{decode}
 use Rattle.records.specs.Answer.{answerBytes}
-use Rattle.feed.specs.Held.{Held, held, lentOf, stateOf, carriedOf}
+use Rattle.feed.specs.Held.{Held, held, stateOf, carriedOf}
+use Rattle.feed.specs.Gathering.{recordSize, NextRecord}
 use Rattle.feed.specs.Feeding.{device, bench, feeds}
-use Rattle.feed.proofs.Running.{Good, good-keeps, ran-bytes, Pads, Runs}
+use Rattle.feed.proofs.Running.{Good, good-keeps, ran-bytes, Runs}
 
+-- ---- the record that code reads
+-- no record has more than 17 bytes
+pub record-few : (r : Record) → recordSize r ≤ 17
+record-few (Advance by) = omega arith
+record-few (Read q) = omega arith
+record-few (Write q value) = omega arith
+record-few (Message m) = omega arith
+record-few LinkUp = omega arith
+record-few LinkDown = omega arith
+record-few ColdReset = omega arith
+record-few ReadQueue = omega arith
+record-few RemoveOldest = omega arith
+record-few (ClearBits mask) = omega arith
+record-few (Control b) = omega arith
+record-few (HardwareSet slot word mask) = omega arith
+record-few ReadBits = omega arith
+record-few NoKind = omega arith
+
+module _ (rest : List ℕ) (space : ℕ) (r : Record) (size : ℕ) (n : NextRecord rest space r) (e : size ≡ recordSize r) (h : 0 < recordSize r) where
+  -- it is what is gathered
+  pub next-gathers : _≡_ {A = GatheredBytes} (record { runs = true; number = 0; bytes = pad longest (take size rest); count = size }) (gathered rest space (next rest))
+  next-gathers = rw e (sym (n .size .some h))
+
+  -- and its bytes are decoded
+  pub next-decoded : r ≡ decode (pad longest (take size rest))
+  next-decoded = rw e (n .decoded h)
+
+-- ---- the loop
 -- the call began in the state s₀, with the first len of `carried` carried; `room` is the slice for answers as it was lent
-module _ (k : Setup) (defaults : List ℕ) (lent : ℕ) (carried : List ℕ) (len : ℕ) (input room : List ℕ) (s₀ : State) where
+module _ (k : Setup) (defaults : List ℕ) (carried : List ℕ) (len : ℕ) (input room : List ℕ) (s₀ : State) where
   -- at the head, with `at` bytes of the call's trace consumed and w bytes written
-  pub record Head (answers : List ℕ) (dev : Dev) (array : List Status) (live cells : List ℕ) (at w : ℕ) : Type 0 where
-    pub slots : lent ≡ k .slots
+  pub record Head (answers : List ℕ) (dev : Dev) (statuses : List Status) (live cells : List ℕ) (at w : ℕ) : Type 0 where
+    pub slots : length (s₀ .statuses) ≡ k .slots
     pub short : len ≤ 16
     pub long : length carried ≡ 16
-    pub pads : Pads lent array
-    pub inv : Inv (bench k defaults) (Good k defaults s₀) (good-keeps k defaults s₀) s₀ (take len carried) input room answers (state dev (lentOf lent array) live cells) at w
+    pub inv : Inv (bench k defaults) (Good k defaults s₀) (good-keeps k defaults s₀) s₀ (take len carried) input room answers (state dev statuses live cells) at w
 
   -- AT THE START
-  pub starts : (dev : Dev) (array : List Status) (live cells : List ℕ) → s₀ ≡ state dev (lentOf lent array) live cells
-      → lent ≡ k .slots → len ≤ 16 → length carried ≡ 16 → Pads lent array
+  pub starts : (dev : Dev) (statuses : List Status) (live cells : List ℕ) → s₀ ≡ state dev statuses live cells
+      → length (s₀ .statuses) ≡ k .slots → len ≤ 16 → length carried ≡ 16
       → Good k defaults s₀ s₀ → begun (take len carried) ≡ true → Bytes (take len carried) → Bytes input
-      → Head room dev array live cells 0 0
-  starts dev array live cells e f short long p g b c i =
+      → Head room dev statuses live cells 0 0
+  starts dev statuses live cells e f short long g b c i =
       record {
         slots = f;
         short = short;
         long = long;
-        pads = p;
         inv = rw (sym e) (begins (bench k defaults) (Good k defaults s₀) (good-keeps k defaults s₀) s₀ (take len carried) input room g b c i);
       }
 
-module _ {k : Setup} {defaults : List ℕ} {lent : ℕ} {carried : List ℕ} {len : ℕ} {input room : List ℕ} {s₀ : State} {answers : List ℕ} {dev : Dev} {array : List Status} {live cells : List ℕ} {at w : ℕ}
-    (v : Head k defaults lent carried len input room s₀ answers dev array live cells at w) where
+module _ {k : Setup} {defaults : List ℕ} {carried : List ℕ} {len : ℕ} {input room : List ℕ} {s₀ : State} {answers : List ℕ} {dev : Dev} {statuses : List Status} {live cells : List ℕ} {at w : ℕ}
+    (v : Head k defaults carried len input room s₀ answers dev statuses live cells at w) where
   abbrev present : State
-  present = state dev (lentOf lent array) live cells
+  present = state dev statuses live cells
 
   abbrev trace : List ℕ
   trace = take len carried ++ input
@@ -62,6 +90,10 @@ module _ {k : Setup} {defaults : List ℕ} {lent : ℕ} {carried : List ℕ} {le
 
   pub length-trace : length trace ≡ len + length input
   length-trace = omega (arith, length-append (take len carried) input, length-take-le len carried (omega (arith, v .short, v .long)))
+
+  -- as many statuses as slots
+  pub length-statuses : length statuses ≡ k .slots
+  length-statuses = v .inv .good .kept .statuses ∙ v .slots
 
   -- what was gathered, by the contract of `gather`
   abbrev pub Gathers : GatheredBytes → Type 0
@@ -93,20 +125,19 @@ module _ {k : Setup} {defaults : List ℕ} {lent : ℕ} {carried : List ℕ} {le
 
   -- A RECORD'S TURN
   pub turned : (g : GatheredBytes) → Turning g → (r : Record) → r ≡ decode (g .bytes)
-      → (dev′ : Dev) (array′ : List Status) (live′ cells′ : List ℕ) (reply : Reply)
-      → Pads lent array′ → Runs k defaults lent array dev live cells r (state dev′ (lentOf lent array′) live′ cells′) reply
+      → (dev′ : Dev) (statuses′ : List Status) (live′ cells′ : List ℕ) (reply : Reply)
+      → Runs k defaults dev statuses live cells r (state dev′ statuses′ live′ cells′) reply
       → (answers′ : List ℕ) → answers′ ≡ paste answers w (answerBytes reply) 8
-      → Head k defaults lent carried len input room s₀ answers′ dev′ array′ live′ cells′ (at + g .count) (w + 8)
-  turned g t r d dev′ array′ live′ cells′ reply p x answers′ a =
+      → Head k defaults carried len input room s₀ answers′ dev′ statuses′ live′ cells′ (at + g .count) (w + 8)
+  turned g t r d dev′ statuses′ live′ cells′ reply x answers′ a =
       record {
         slots = v .slots;
         short = v .short;
         long = v .long;
-        pads = p;
         inv = rw a
             (turns (bench k defaults) (Good k defaults s₀) (good-keeps k defaults s₀) s₀ (take len carried) input room answers present at w (v .inv) g (t .got)
-            (record { dev = state dev′ (lentOf lent array′) live′ cells′; answer = answerBytes reply })
-            (ran-bytes k defaults present (state dev′ (lentOf lent array′) live′ cells′) (answerBytes reply) r (g .bytes) (t .got .whole) d (t .got .bytes) (x .after) (ap answerBytes (x .reply)))
+            (record { dev = state dev′ statuses′ live′ cells′; answer = answerBytes reply })
+            (ran-bytes k defaults present (state dev′ statuses′ live′ cells′) (answerBytes reply) r (g .bytes) (t .got .whole) d (t .got .bytes) (x .after) (ap answerBytes (x .reply)))
             (t .space));
       }
 
@@ -122,7 +153,7 @@ module _ {k : Setup} {defaults : List ℕ} {lent : ℕ} {carried : List ℕ} {le
           number = g .number;
           consumed = at + g .count - len;
           written = w;
-          held = held (record { dev = dev; carried = pad 16 (take (g .count) (g .bytes)); «carried_len» = g .count; broken = eqb (g .number) 31 }) (lentOf lent array) live cells;
+          held = held (record { dev = dev; carried = pad 16 (take (g .count) (g .bytes)); «carried_len» = g .count; broken = eqb (g .number) 31 }) statuses live cells;
           answers = answers;
         })
         (feeds k defaults h input room)
@@ -132,7 +163,7 @@ module _ {k : Setup} {defaults : List ℕ} {lent : ℕ} {carried : List ℕ} {le
           number = g .number;
           consumed = at + g .count - len;
           written = w;
-          held = held (record { dev = dev; carried = pad 16 (take (g .count) (g .bytes)); «carried_len» = sym (z .long) i; broken = eqb (g .number) 31 }) (lentOf lent array) live cells;
+          held = held (record { dev = dev; carried = pad 16 (take (g .count) (g .bytes)); «carried_len» = sym (z .long) i; broken = eqb (g .number) 31 }) statuses live cells;
           answers = answers;
         })
         (finish (bench k defaults) (Good k defaults s₀) (good-keeps k defaults s₀) s₀ (take len carried) input room answers present at w (v .inv) (g .bytes) (g .number) (g .count) z

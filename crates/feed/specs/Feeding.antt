@@ -10,11 +10,13 @@ use Rattle.trace.specs.Bench.{Device, Ran as RanBytes}
 use Rattle.trace.specs.Lent.{Lent, Left, feeds as feedsOn}
 use Rattle.trace.specs.Calls.{Call, Came, calls as callsOn}
 use Rattle.readiness.specs.declared.Setup.{Setup}
+use Rattle.readiness.specs.Phases.{statusesIn}
 use Rattle.records.specs.Decode.{decode}
 use Rattle.records.specs.Answer.{Ran, answerBytes}
 use Rattle.records.specs.State.{State}
 use Rattle.records.specs.Run.{run}
 use Rattle.feed.specs.declared.Fed.{Fed}
+use Rattle.feed.specs.declared.FedPort.{FedPort}
 use Rattle.feed.specs.Held.{Held, held, benchOf, heldOf, lentOf}
 use Rattle.feed.specs.Refusals.{setUpRefusal, soundHeld}
 
@@ -55,5 +57,16 @@ left n r live cells answers =
       consumed = r .consumed;
       written = r .written;
       held = held (r .port) (lentOf n (r .statuses)) live cells;
+      answers = answers;
+    }
+
+-- what the code gives where the statuses are numbers
+abbrev pub leftInPlace : FedPort → (phases live cells answers : List ℕ) → Left Held
+leftInPlace r phases live cells answers =
+    record {
+      number = r .number;
+      consumed = r .consumed;
+      written = r .written;
+      held = held (r .port) (statusesIn phases) live cells;
       answers = answers;
     }

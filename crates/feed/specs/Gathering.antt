@@ -7,6 +7,9 @@ use mathlib.Core.List.{List}
 use lib.ListN.{getD, take}
 use Rattle.trace.specs.Format.{sizeOf, pad, longest, next}
 use Rattle.trace.specs.Feed.{Gathered as GatheredBytes, gathered}
+use Rattle.records.specs.declared.Record.{Record}
+use Rattle.records.specs.declared.Record.the-variants.{Advance, Read, Write, Message, LinkUp, LinkDown, ColdReset, ReadQueue, RemoveOldest, ClearBits, Control, HardwareSet, ReadBits, NoKind}
+use Rattle.records.specs.Decode.{decode}
 use Rattle.feed.specs.declared.Gathered.{Gathered}
 
 -- a record to run, or the call's end
@@ -18,3 +21,25 @@ pub record WholeSize (rest : List ℕ) (room size : ℕ) : Type 0 where
   pub none : size ≡ 0 → gathered rest room (next rest) .runs ≡ false
   pub some : 0 < size → gathered rest room (next rest) ≡ record { runs = true; number = 0; bytes = pad longest (take size rest); count = size }
   pub sized : 0 < size → sizeOf (getD rest 0 0) ≡ size
+
+-- how many bytes a record has, its byte of kind with them
+abbrev pub recordSize : Record → ℕ
+recordSize (Advance by) = 5
+recordSize (Read q) = 4
+recordSize (Write q value) = 8
+recordSize (Message m) = 17
+recordSize LinkUp = 1
+recordSize LinkDown = 1
+recordSize ColdReset = 1
+recordSize ReadQueue = 1
+recordSize RemoveOldest = 1
+recordSize (ClearBits mask) = 2
+recordSize (Control b) = 2
+recordSize (HardwareSet slot word mask) = 7
+recordSize ReadBits = 1
+recordSize NoKind = 0
+
+-- no kind, where the call ends at `rest`; else the whole record in front, which has room for its answer
+pub record NextRecord (rest : List ℕ) (room : ℕ) (r : Record) : Type 0 where
+  pub size : WholeSize rest room (recordSize r)
+  pub decoded : 0 < recordSize r → r ≡ decode (pad longest (take (recordSize r) rest))

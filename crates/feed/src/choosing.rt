@@ -1,5 +1,6 @@
 // How a record takes its turn: by the part of the state that it touches, with the commonest records apart.
 ghost use mathlib.Core.Path.{_≡_};
+ghost use mathlib.Core.Bool.{Bool};
 ghost use mathlib.Core.List.{List};
 ghost use lib.ListN.{set};
 ghost use Rattle.readiness.specs.declared.Status.{Status};
@@ -8,7 +9,10 @@ ghost use Prim.Native.Nat.{ℕ, _<_};
 ghost use Rattle.times.specs.declared.Nanos.{Nanos};
 ghost use Rattle.records.specs.declared.Record.the-variants as variants;
 ghost use Rattle.feed.specs.Turns.{Takes};
+ghost use Rattle.feed.specs.Gathering.{recordSize};
 use crate::Turn;
+use frs_queue::Frs;
+use messages::Message;
 use readiness::Phase;
 use readiness::Status;
 use records::Record;
@@ -17,7 +21,7 @@ use times::Nanos;
 
 // A read of a slot that there is not touches nothing.
 fn read_turn(slots: usize, q: Request) -> Turn
-    ensures { λ r. ⌜ ((earliest clock : Nanos) → Takes slots earliest clock (variants.Read q) r) ⌝ }
+    ensures { λ r. ⌜ ((earliest clock : Nanos) (link : Bool) → Takes slots earliest clock link (variants.Read q) r) ⌝ }
 {
     if q.slot < slots {
         Turn::Read(q)
@@ -28,7 +32,7 @@ fn read_turn(slots: usize, q: Request) -> Turn
 
 // So does a write.
 fn write_turn(slots: usize, q: Request, value: u32) -> Turn
-    ensures { λ r. ⌜ ((earliest clock : Nanos) → Takes slots earliest clock (variants.Write q value) r) ⌝ }
+    ensures { λ r. ⌜ ((earliest clock : Nanos) (link : Bool) → Takes slots earliest clock link (variants.Write q value) r) ⌝ }
 {
     if q.slot < slots {
         Turn::Write(q, value)
@@ -39,7 +43,7 @@ fn write_turn(slots: usize, q: Request, value: u32) -> Turn
 
 // So does a hardware set.
 fn hardware_turn(slots: usize, slot: usize, word: usize, mask: u32) -> Turn
-    ensures { λ r. ⌜ ((earliest clock : Nanos) → Takes slots earliest clock (variants.HardwareSet slot word mask) r) ⌝ }
+    ensures { λ r. ⌜ ((earliest clock : Nanos) (link : Bool) → Takes slots earliest clock link (variants.HardwareSet slot word mask) r) ⌝ }
 {
     if slot < slots {
         Turn::Hardware(slot, word, mask)
@@ -50,7 +54,7 @@ fn hardware_turn(slots: usize, slot: usize, word: usize, mask: u32) -> Turn
 
 // No slot becomes Ready before `earliest`.
 fn clock_turn(earliest: Nanos, clock: Nanos, by: Nanos) -> Turn
-    ensures { λ r. ⌜ ((slots : ℕ) → Takes slots earliest clock (variants.Advance by) r) ⌝ }
+    ensures { λ r. ⌜ ((slots : ℕ) (link : Bool) → Takes slots earliest clock link (variants.Advance by) r) ⌝ }
 {
     if times::earlier(times::sum(clock, by), earliest) {
         Turn::Clock(by)
@@ -59,14 +63,34 @@ fn clock_turn(earliest: Nanos, clock: Nanos, by: Nanos) -> Turn
     }
 }
 
-pub fn turn_of(slots: usize, earliest: Nanos, clock: Nanos, record: Record) -> Turn
-    ensures { λ r. ⌜ Takes slots earliest clock «record» r ⌝ }
+// An FRS that comes with the link up goes to the queue alone.
+fn message_turn(link: bool, message: Message) -> Turn
+    ensures { λ r. ⌜ ((slots : ℕ) (earliest clock : Nanos) → Takes slots earliest clock link (variants.Message message) r) ⌝ }
+{
+    match message {
+        Message::Frs(id, reason) => {
+            if link {
+                Turn::Frs(Frs {
+                    id: id,
+                    reason: reason,
+                })
+            } else {
+                Turn::Port
+            }
+        }
+        Message::Drs(_) => Turn::Port,
+        Message::NotReadiness => Turn::Port,
+    }
+}
+
+pub fn turn_of(slots: usize, earliest: Nanos, clock: Nanos, link: bool, record: Record) -> Turn
+    ensures { λ r. ⌜ Takes slots earliest clock link «record» r ⌝ }
 {
     match record {
         Record::Advance(by) => clock_turn(earliest, clock, by),
         Record::Read(q) => read_turn(slots, q),
         Record::Write(q, value) => write_turn(slots, q, value),
-        Record::Message(_) => Turn::Port,
+        Record::Message(message) => message_turn(link, message),
         Record::LinkUp => Turn::Card,
         Record::LinkDown => Turn::Card,
         Record::ColdReset => Turn::Card,
@@ -76,7 +100,7 @@ pub fn turn_of(slots: usize, earliest: Nanos, clock: Nanos, record: Record) -> T
         Record::Control(_) => Turn::Port,
         Record::HardwareSet(slot, word, mask) => hardware_turn(slots, slot, word, mask),
         Record::ReadBits => Turn::Port,
-        Record::NoKind => Turn::Port,
+        Record::NoKind => Turn::End,
     }
 }
 
@@ -89,5 +113,27 @@ pub fn lowered(earliest: Nanos, status: Status) -> Nanos
         Phase::Down => earliest,
         Phase::Ready => earliest,
         Phase::Pending(_, ready) => times::least(ready, earliest),
+    }
+}
+
+// How many bytes a record has, its byte of kind with them.
+pub fn record_size(record: Record) -> usize
+    ensures { λ r. ⌜ r ≡ recordSize «record» ⌝ }
+{
+    match record {
+        Record::Advance(_) => 5,
+        Record::Read(_) => 4,
+        Record::Write(_, _) => 8,
+        Record::Message(_) => 17,
+        Record::LinkUp => 1,
+        Record::LinkDown => 1,
+        Record::ColdReset => 1,
+        Record::ReadQueue => 1,
+        Record::RemoveOldest => 1,
+        Record::ClearBits(_) => 2,
+        Record::Control(_) => 2,
+        Record::HardwareSet(_, _, _) => 7,
+        Record::ReadBits => 1,
+        Record::NoKind => 0,
     }
 }

@@ -7,11 +7,10 @@ ghost use lib.ListN.{length, getD, take, drop};
 ghost use lib.Seq.{paste};
 ghost use Rattle.trace.specs.Format.{sizeOf, pad, longest, next};
 ghost use Rattle.trace.specs.Feed.{gathered};
-ghost use Rattle.feed.specs.Gathering.{gatheredBytes, WholeSize};
-ghost use Rattle.records.specs.Decode.{decode as decoded};
+ghost use Rattle.feed.specs.Gathering.{gatheredBytes, WholeSize, NextRecord};
 use crate::Gathered;
 use crate::Port;
-use crate::reading::decode_at;
+use crate::reading::whole_at;
 use device::decoding::decode;
 use readiness::Dev;
 use records::Record;
@@ -99,15 +98,22 @@ pub fn whole_size(carried: &[u8], len: usize, input: &[u8], at: usize, space: us
     size
 }
 
-// The whole record of `size` bytes at `at` in a call's trace.
-pub fn record_at(carried: &[u8], len: usize, input: &[u8], at: usize, size: usize) -> Record
-    requires { ⌜ (len ≤ length (now carried)) × (0 < size) × (at + size ≤ len + length (now input)) × (sizeOf (getD (drop at (take len (now carried) ++ now input)) 0 0) ≡ size) ⌝ }
-    ensures { λ r. ⌜ r ≡ decoded (pad longest (take size (drop at (take len (now (carried .entry)) ++ now (input .entry))))) ⌝ }
+// The record at `at` in a call's trace, if it is whole and there is room for its answer; else no kind.
+pub fn next_record(carried: &[u8], len: usize, input: &[u8], at: usize, space: usize) -> Record
+    requires { ⌜ (len ≤ length (now carried)) × (at ≤ len + length (now input)) ⌝ }
+    ensures { λ r. ⌜ NextRecord (drop at (take len (now (carried .entry)) ++ now (input .entry))) space r ⌝ }
 {
-    if at < len {
-        return decode(copy(carried, len, input, at, size));
+    if space < 8 {
+        return Record::NoKind;
     }
-    decode_at(input, at - len)
+    if len <= at {
+        return whole_at(input, at - len);
+    }
+    let size = whole_size(carried, len, input, at, space);
+    if size == 0 {
+        return Record::NoKind;
+    }
+    decode(copy(carried, len, input, at, size))
 }
 
 // The call's end: its number, and how many of the bytes are carried.

@@ -1,31 +1,11 @@
-// Statuses as they are lent, and what a set-up starts with.
+// What a set-up starts with.
 ghost use mathlib.Core.Path.{_≡_};
-ghost use mathlib.Core.List.{_++_};
-ghost use Prim.Native.Nat.{_-_};
-ghost use lib.ListN.{length, take, replicate};
-ghost use Rattle.readiness.specs.Status.{ready};
+ghost use lib.ListN.{length, replicate};
 ghost use Rattle.feed.specs.SettingUp.{freshDev, freshPort};
 use crate::Port;
 use frs_queue::Queue;
 use readiness::Control;
 use readiness::Dev;
-use readiness::Phase;
-use readiness::Status;
-
-// The first n statuses; past them every slot counts as Ready.
-pub fn padded(statuses: [Status; 32], n: usize) -> [Status; 32]
-    ensures { λ r. ⌜ r ≡ take n statuses ++ replicate (32 - n) ready ⌝ }
-{
-    let mut out = statuses;
-    let mut i = n;
-    while i < 32 {
-        out[i] = Status {
-            phase: Phase::Ready,
-        };
-        i += 1;
-    }
-    out
-}
 
 // Every queue cell becomes 0.
 pub fn clear_cells(cells: &mut [u32])

@@ -7,32 +7,36 @@ mod lending; // statuses as they are lent, and what a set-up starts with
 mod turning; // a record's turn on the root port or the whole card, and its answer
 
 ghost use mathlib.Core.Path.{_≡_};
-ghost use mathlib.Core.List.{_++_};
-ghost use Prim.Native.Nat.{_-_, _≤_};
+ghost use Prim.Native.Nat.{_≤_};
 ghost use lib.Dec.{eqb};
-ghost use lib.ListN.{take, replicate};
+ghost use lib.ListN.{take};
 ghost use Rattle.trace.specs.Format.{pad};
 ghost use Rattle.trace.specs.Lent.{refusalOr31};
-ghost use Rattle.readiness.specs.Status.{ready};
+ghost use Rattle.readiness.specs.Phases.{statusesIn};
 ghost use Rattle.feed.specs.Held.{held, lentOf};
 ghost use Rattle.feed.specs.SettingUp.{setsUp, prepared};
-ghost use Rattle.feed.specs.Feeding.{bench, feeds, left};
+ghost use Rattle.feed.specs.Feeding.{bench, feeds, left, leftInPlace};
 use choosing::lowered;
+use choosing::record_size;
 use choosing::turn_of;
 use device::card::advance_alone;
+use device::port::receive_frs;
 use device::requests::run_hardware;
 use device::requests::run_read;
 use device::requests::run_write;
+use frs_queue::Frs;
 use gathering::gather;
 use gathering::keep;
-use gathering::record_at;
-use gathering::whole_size;
+use gathering::next_record;
 use lending::clear_cells;
 use lending::fresh_port;
-use lending::padded;
 use readiness::Dev;
 use readiness::Setup;
 use readiness::Status;
+use readiness::phases::in_numbers;
+use readiness::phases::in_statuses;
+use readiness::phases::put_status;
+use readiness::phases::status_at;
 use records::Request;
 use refusing::refusal;
 use refusing::set_up_refusal;
@@ -66,6 +70,14 @@ pub struct Fed {
     pub statuses: [Status; 32],
 }
 
+// What feed gives where the statuses are changed in place, beside the lent slices.
+pub struct FedPort {
+    pub number: u8,
+    pub consumed: usize,
+    pub written: usize,
+    pub port: Port,
+}
+
 // What stands next in a call's trace: a record to run, `count` bytes with zeros after them; or the call's end, with its number, and
 // the first `count` bytes are carried.
 pub struct Gathered {
@@ -85,10 +97,14 @@ pub enum Turn {
     Hardware(usize, usize, u32),
     // The root port alone.
     Port,
+    // An FRS arrives at the queue.
+    Frs(Frs),
     // The clock moves by so much, and no slot becomes Ready.
     Clock(Nanos),
     // The whole card.
     Card,
+    // None: the call ends.
+    End,
 }
 
 // Set-up: a refusal changes nothing.
@@ -121,66 +137,56 @@ pub fn set_up(
 }
 
 // The call's end: the first bytes of what was gathered are carried.
-fn call_end(dev: Dev, statuses: [Status; 32], g: Gathered, consumed: usize, written: usize) -> Fed
+fn call_end(dev: Dev, g: Gathered, consumed: usize, written: usize) -> FedPort
     requires { ⌜ g .count ≤ 16 ⌝ }
-    ensures { λ r. ⌜ r ≡ record { number = g .number; consumed = consumed; written = written; port = record { dev = dev; carried = pad 16 (take (g .count) (g .bytes)); «carried_len» = g .count; broken = eqb (g .number) 31 }; statuses = statuses } ⌝ }
+    ensures { λ r. ⌜ r ≡ record { number = g .number; consumed = consumed; written = written; port = record { dev = dev; carried = pad 16 (take (g .count) (g .bytes)); «carried_len» = g .count; broken = eqb (g .number) 31 } } ⌝ }
 {
     let bytes = g.bytes;
-    Fed {
+    FedPort {
         number: g.number,
         consumed: consumed,
         written: written,
         port: keep(dev, bytes, g.count, g.number == 31),
-        statuses: statuses,
     }
 }
 
-// A call that is not refused, on statuses that are Ready past the lent ones: each whole record runs in its turn, until the trace ends, a kind
-// is unknown or the room is too small.
+// A call that is not refused: each whole record runs in its turn, until the trace ends, a kind is unknown or the room is too small.
 fn run_trace(
     setup: Setup,
     port: Port,
-    statuses: [Status; 32],
-    lent: usize,
+    phases: &mut [u64],
     live: &mut [u32],
     defaults: &[u32],
     cells: &mut [u32],
     input: &[u8],
     answers: &mut [u8],
-) -> Fed
-    requires { ⌜ statuses ≡ lentOf lent statuses ++ replicate (32 - lent) ready ⌝ }
-    requires { ⌜ refusalOr31 (bench setup (now defaults)) (held port (lentOf lent statuses) (now live) (now cells)) ≡ 0 ⌝ }
-    ensures { λ r. ⌜ left lent r (now (live .exit)) (now (cells .exit)) (now (answers .exit)) ≡ feeds setup (now (defaults .entry)) (held port (lentOf lent statuses) (now (live .entry)) (now (cells .entry))) (now (input .entry)) (now (answers .entry)) ⌝ }
+) -> FedPort
+    requires { ⌜ refusalOr31 (bench setup (now defaults)) (held port (statusesIn (now phases)) (now live) (now cells)) ≡ 0 ⌝ }
+    ensures { λ r. ⌜ leftInPlace r (now (phases .exit)) (now (live .exit)) (now (cells .exit)) (now (answers .exit)) ≡ feeds setup (now (defaults .entry)) (held port (statusesIn (now (phases .entry))) (now (live .entry)) (now (cells .entry))) (now (input .entry)) (now (answers .entry)) ⌝ }
 {
     let carried = port.carried;
     let len = port.carried_len;
     let mut dev = port.dev;
-    let mut s = statuses;
     let mut earliest = times::nanos_of(0);
     let mut at: usize = 0;
     let mut w: usize = 0;
     loop {
         let room = answers.len() - w;
-        let size = whole_size(&carried, len, input, at, room);
-        if size == 0 {
-            let g = gather(&carried, len, input, at, room);
-            return call_end(dev, s, g, at + g.count - len, w);
-        }
-        let next = at + size;
+        let record = next_record(&carried, len, input, at, room);
+        let turn = turn_of(setup.slots, earliest, dev.clock, dev.link, record);
+        let next = at + record_size(record);
         let more = w + 8;
-        let record = record_at(&carried, len, input, at, size);
-        let turn = turn_of(setup.slots, earliest, dev.clock, record);
         match turn {
             Turn::Read(q) => {
                 let slot = q.slot;
-                let status = s[slot];
+                let status = status_at(phases, slot);
                 let reply = run_read(setup.slots, Kind::Endpoint, dev, status, live, q);
                 answer(answers, w, reply);
             }
             Turn::Write(q, value) => {
                 let slot = q.slot;
                 let entry = setup.entries[slot];
-                let status = s[slot];
+                let status = status_at(phases, slot);
                 let x = run_write(
                     setup.slots,
                     Kind::Endpoint,
@@ -197,12 +203,12 @@ fn run_trace(
                 );
                 answer(answers, w, x.reply);
                 let after = x.status;
-                s[slot] = after;
+                put_status(phases, slot, after);
                 dev = x.dev;
                 earliest = lowered(earliest, after);
             }
             Turn::Hardware(slot, word, mask) => {
-                let status = s[slot];
+                let status = status_at(phases, slot);
                 let reply = run_hardware(
                     setup.slots,
                     Kind::Endpoint,
@@ -218,21 +224,65 @@ fn run_trace(
                 let x = port_turn(setup.port_id, dev, record, cells, answers, w);
                 dev = x.dev;
             }
+            Turn::Frs(frs) => {
+                let x = receive_frs(dev, cells, frs);
+                answer(answers, w, x.reply);
+                let queue = x.queue;
+                dev.queue = queue;
+            }
             Turn::Clock(by) => {
                 let x = advance_alone(dev, by);
                 answer(answers, w, x.reply);
                 dev = x.dev;
             }
             Turn::Card => {
-                let x = card_turn(setup, dev, s, record, live, defaults, cells, answers, w);
-                s = x.statuses;
+                let x = card_turn(
+                    setup,
+                    dev,
+                    phases,
+                    record,
+                    live,
+                    defaults,
+                    cells,
+                    answers,
+                    w,
+                );
                 dev = x.dev;
-                earliest = readiness::earliest_ready(s);
+                earliest = readiness::earliest_ready(setup.slots, phases);
+            }
+            Turn::End => {
+                let g = gather(&carried, len, input, at, room);
+                return call_end(dev, g, at + g.count - len, w);
             }
         }
         at = next;
         w = more;
     }
+}
+
+// Feed where the statuses are numbers, three to a slot, which are changed in place: a refusal changes nothing.
+pub fn feed_in_place(
+    setup: Setup,
+    port: Port,
+    phases: &mut [u64],
+    live: &mut [u32],
+    defaults: &[u32],
+    cells: &mut [u32],
+    input: &[u8],
+    answers: &mut [u8],
+) -> FedPort
+    ensures { λ r. ⌜ leftInPlace r (now (phases .exit)) (now (live .exit)) (now (cells .exit)) (now (answers .exit)) ≡ feeds setup (now (defaults .entry)) (held port (statusesIn (now (phases .entry))) (now (live .entry)) (now (cells .entry))) (now (input .entry)) (now (answers .entry)) ⌝ }
+{
+    let no = refusal(setup, port, phases, live.len(), defaults, cells);
+    if no != 0 {
+        return FedPort {
+            number: no,
+            consumed: 0,
+            written: 0,
+            port: port,
+        };
+    }
+    run_trace(setup, port, phases, live, defaults, cells, input, answers)
 }
 
 // Feed: a refusal changes nothing.
@@ -249,26 +299,33 @@ pub fn feed(
 ) -> Fed
     ensures { λ r. ⌜ left lent r (now (live .exit)) (now (cells .exit)) (now (answers .exit)) ≡ feeds setup (now (defaults .entry)) (held port (lentOf lent statuses) (now (live .entry)) (now (cells .entry))) (now (input .entry)) (now (answers .entry)) ⌝ }
 {
-    let filled = padded(statuses, lent);
-    let no = refusal(setup, port, filled, lent, live.len(), defaults, cells);
-    if no != 0 {
+    if 32 < lent {
         return Fed {
-            number: no,
+            number: 1,
             consumed: 0,
             written: 0,
             port: port,
             statuses: statuses,
         };
     }
-    run_trace(
+    let mut phases = in_numbers(statuses);
+    let end = 3 * lent;
+    let fed = feed_in_place(
         setup,
         port,
-        filled,
-        lent,
+        &mut phases[0..end],
         live,
         defaults,
         cells,
         input,
         answers,
-    )
+    );
+    let after = fed.port;
+    Fed {
+        number: fed.number,
+        consumed: fed.consumed,
+        written: fed.written,
+        port: after,
+        statuses: in_statuses(phases),
+    }
 }

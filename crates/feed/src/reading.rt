@@ -1,9 +1,9 @@
 // A record that stands whole in the input: its fields, read where they stand.
 ghost use mathlib.Core.Path.{_≡_};
-ghost use Prim.Native.Nat.{_+_, _≤_, _<_};
-ghost use lib.ListN.{length, getD, take, drop};
-ghost use Rattle.trace.specs.Format.{sizeOf, pad, longest};
-ghost use Rattle.records.specs.Decode.{four, decode};
+ghost use Prim.Native.Nat.{ℕ, _+_, _≤_, _<_};
+ghost use lib.ListN.{length, getD, drop};
+ghost use Rattle.records.specs.Decode.{four};
+ghost use Rattle.feed.specs.Gathering.{NextRecord};
 use records::Record;
 use records::Request;
 
@@ -49,29 +49,110 @@ fn request_at(input: &[u8], at: usize) -> Request
     }
 }
 
-// The whole record at `at`, by its kind.
-pub fn decode_at(input: &[u8], at: usize) -> Record
-    requires { ⌜ (at < length (now input)) × (at + sizeOf (getD (now input) at 0) ≤ length (now input)) ⌝ }
-    ensures { λ r. ⌜ r ≡ decode (pad longest (take (sizeOf (getD (now (input .entry)) at 0)) (drop at (now (input .entry))))) ⌝ }
+// Advance clock, if the record is whole.
+fn advance_at(input: &[u8], at: usize, there: usize) -> Record
+    requires { ⌜ (at + there ≡ length (now input)) × (0 < there) × (getD (now input) at 0 ≡ 1) ⌝ }
+    ensures { λ r. ⌜ ((space : ℕ) → 8 ≤ space → NextRecord (drop at (now (input .entry))) space r) ⌝ }
 {
+    if there < 5 {
+        return Record::NoKind;
+    }
+    Record::Advance(times::nanos_of(wide64(four_at(input, at + 1))))
+}
+
+// Configuration read.
+fn read_at(input: &[u8], at: usize, there: usize) -> Record
+    requires { ⌜ (at + there ≡ length (now input)) × (0 < there) × (getD (now input) at 0 ≡ 2) ⌝ }
+    ensures { λ r. ⌜ ((space : ℕ) → 8 ≤ space → NextRecord (drop at (now (input .entry))) space r) ⌝ }
+{
+    if there < 4 {
+        return Record::NoKind;
+    }
+    Record::Read(request_at(input, at))
+}
+
+// Configuration write.
+fn write_at(input: &[u8], at: usize, there: usize) -> Record
+    requires { ⌜ (at + there ≡ length (now input)) × (0 < there) × (getD (now input) at 0 ≡ 3) ⌝ }
+    ensures { λ r. ⌜ ((space : ℕ) → 8 ≤ space → NextRecord (drop at (now (input .entry))) space r) ⌝ }
+{
+    if there < 8 {
+        return Record::NoKind;
+    }
+    Record::Write(request_at(input, at), four_at(input, at + 4))
+}
+
+// Message.
+fn message_at(input: &[u8], at: usize, there: usize) -> Record
+    requires { ⌜ (at + there ≡ length (now input)) × (0 < there) × (getD (now input) at 0 ≡ 4) ⌝ }
+    ensures { λ r. ⌜ ((space : ℕ) → 8 ≤ space → NextRecord (drop at (now (input .entry))) space r) ⌝ }
+{
+    if there < 17 {
+        return Record::NoKind;
+    }
+    Record::Message(messages::read(&input[at + 1..at + 17]))
+}
+
+// Clear status bits.
+fn clear_at(input: &[u8], at: usize, there: usize) -> Record
+    requires { ⌜ (at + there ≡ length (now input)) × (0 < there) × (getD (now input) at 0 ≡ 10) ⌝ }
+    ensures { λ r. ⌜ ((space : ℕ) → 8 ≤ space → NextRecord (drop at (now (input .entry))) space r) ⌝ }
+{
+    if there < 2 {
+        return Record::NoKind;
+    }
+    Record::ClearBits(input[at + 1])
+}
+
+// Control byte.
+fn control_at(input: &[u8], at: usize, there: usize) -> Record
+    requires { ⌜ (at + there ≡ length (now input)) × (0 < there) × (getD (now input) at 0 ≡ 11) ⌝ }
+    ensures { λ r. ⌜ ((space : ℕ) → 8 ≤ space → NextRecord (drop at (now (input .entry))) space r) ⌝ }
+{
+    if there < 2 {
+        return Record::NoKind;
+    }
+    Record::Control(input[at + 1])
+}
+
+// Hardware sets bits.
+fn hardware_at(input: &[u8], at: usize, there: usize) -> Record
+    requires { ⌜ (at + there ≡ length (now input)) × (0 < there) × (getD (now input) at 0 ≡ 12) ⌝ }
+    ensures { λ r. ⌜ ((space : ℕ) → 8 ≤ space → NextRecord (drop at (now (input .entry))) space r) ⌝ }
+{
+    if there < 7 {
+        return Record::NoKind;
+    }
+    Record::HardwareSet(
+        wide(input[at + 1]),
+        wide(input[at + 2]),
+        four_at(input, at + 3),
+    )
+}
+
+// The record at `at`, by its kind, if it is whole; else no kind.
+pub fn whole_at(input: &[u8], at: usize) -> Record
+    requires { ⌜ at ≤ length (now input) ⌝ }
+    ensures { λ r. ⌜ ((space : ℕ) → 8 ≤ space → NextRecord (drop at (now (input .entry))) space r) ⌝ }
+{
+    let there = input.len() - at;
+    if there == 0 {
+        return Record::NoKind;
+    }
     let kind = input[at];
     match kind {
-        0x01 => Record::Advance(times::nanos_of(wide64(four_at(input, at + 1)))),
-        0x02 => Record::Read(request_at(input, at)),
-        0x03 => Record::Write(request_at(input, at), four_at(input, at + 4)),
-        0x04 => Record::Message(messages::read(&input[at + 1..at + 17])),
+        0x01 => advance_at(input, at, there),
+        0x02 => read_at(input, at, there),
+        0x03 => write_at(input, at, there),
+        0x04 => message_at(input, at, there),
         0x05 => Record::LinkUp,
         0x06 => Record::LinkDown,
         0x07 => Record::ColdReset,
         0x08 => Record::ReadQueue,
         0x09 => Record::RemoveOldest,
-        0x0A => Record::ClearBits(input[at + 1]),
-        0x0B => Record::Control(input[at + 1]),
-        0x0C => Record::HardwareSet(
-            wide(input[at + 1]),
-            wide(input[at + 2]),
-            four_at(input, at + 3),
-        ),
+        0x0A => clear_at(input, at, there),
+        0x0B => control_at(input, at, there),
+        0x0C => hardware_at(input, at, there),
         0x0D => Record::ReadBits,
         _ => Record::NoKind,
     }

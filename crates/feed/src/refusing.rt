@@ -1,13 +1,12 @@
 // Numbers given for no, 1 to 4: the first that applies; and the test of the carried bytes.
 ghost use mathlib.Core.Path.{_≡_};
-ghost use mathlib.Core.List.{List, _++_};
-ghost use Prim.Native.Nat.{ℕ, _+_, _-_, _*_, _≤_, _<_};
-ghost use lib.ListN.{length, take, replicate};
-ghost use Rattle.readiness.specs.declared.Status.{Status};
-ghost use Rattle.readiness.specs.Status.{ready};
+ghost use mathlib.Core.List.{List};
+ghost use Prim.Native.Nat.{ℕ, _+_, _*_, _≤_, _<_};
+ghost use lib.ListN.{length, take};
+ghost use Rattle.readiness.specs.Phases.{statusesIn};
 ghost use Rattle.trace.specs.Format.{begun};
 ghost use Rattle.trace.specs.Lent.{refusalOr31};
-ghost use Rattle.feed.specs.Held.{held, lentOf};
+ghost use Rattle.feed.specs.Held.{held};
 ghost use Rattle.feed.specs.Refusals.{lengthsFit, queueFits, codesAllowed, allCodesAllowed, checkedWords, wordsAllowed, allDefaultsAllowed, firstFailed, setUpTests, soundCarried};
 ghost use Rattle.feed.specs.Feeding.{bench};
 use crate::Port;
@@ -15,7 +14,6 @@ use crate::gathering::size_of;
 use device::soundness::is_sound;
 use readiness::Setup;
 use readiness::Slot;
-use readiness::Status;
 use registers::Kind;
 
 // Slots 1 to 32, one status per slot, 64 live and 64 default registers per slot.
@@ -148,19 +146,18 @@ pub fn sound_carried(port: Port) -> bool
     begins(carried, n)
 }
 
-// 0, or the first number that applies before a byte is looked at: 1 to 5, then 31 for a broken trace. The statuses are Ready past the lent ones.
+// 0, or the first number that applies before a byte is looked at: 1 to 5, then 31 for a broken trace.
 pub fn refusal(
     setup: Setup,
     port: Port,
-    filled: [Status; 32],
-    lent: usize,
+    phases: &[u64],
     live: usize,
     defaults: &[u32],
     cells: &[u32],
 ) -> u8
-    ensures { λ r. ⌜ ((statuses : List Status) → length statuses ≡ 32 → filled ≡ take lent statuses ++ replicate (32 - lent) ready → (words : List ℕ) → length words ≡ live → r ≡ refusalOr31 (bench setup (now (defaults .entry))) (held port (lentOf lent statuses) words (now (cells .entry)))) ⌝ }
+    ensures { λ r. ⌜ ((words : List ℕ) → length words ≡ live → r ≡ refusalOr31 (bench setup (now (defaults .entry))) (held port (statusesIn (now (phases .entry))) words (now (cells .entry)))) ⌝ }
 {
-    let no = set_up_refusal(setup, lent, live, defaults, cells.len());
+    let no = set_up_refusal(setup, phases.len() / 3, live, defaults, cells.len());
     if no != 0 {
         return no;
     }
@@ -168,7 +165,7 @@ pub fn refusal(
         return 5;
     }
     let dev = port.dev;
-    if !is_sound(setup, dev, filled, cells) {
+    if !is_sound(setup.slots, dev, phases, cells) {
         return 5;
     }
     if port.broken {

@@ -3,6 +3,7 @@ ghost use mathlib.Core.Path.{_≡_};
 ghost use Prim.Native.Nat.{_+_, _≤_};
 ghost use lib.ListN.{length};
 ghost use lib.Seq.{paste};
+ghost use Rattle.readiness.specs.Phases.{statusesIn};
 ghost use Rattle.records.specs.State.{state};
 ghost use Rattle.records.specs.Answer.{answerBytes};
 ghost use Rattle.records.specs.PortRecords.{front};
@@ -13,8 +14,6 @@ use device::card::run_card;
 use device::port::run_port;
 use readiness::Dev;
 use readiness::Setup;
-use readiness::Status;
-use records::CardDone;
 use records::PortDone;
 use records::Record;
 use records::Reply;
@@ -47,19 +46,19 @@ pub fn port_turn(
 pub fn card_turn(
     setup: Setup,
     dev: Dev,
-    statuses: [Status; 32],
+    phases: &mut [u64],
     record: Record,
     live: &mut [u32],
     defaults: &[u32],
     cells: &mut [u32],
     answers: &mut [u8],
     at: usize,
-) -> CardDone
-    requires { ⌜ at + 8 ≤ length (now answers) ⌝ }
-    ensures { λ r. ⌜ cardRan r (now (live .exit)) (now (cells .exit)) ≡ cardRun setup (now (defaults .entry)) «record» (state dev statuses (now (live .entry)) (now (cells .entry))) ⌝ }
+) -> PortDone
+    requires { ⌜ (setup .slots ≤ 32) × (length (statusesIn (now phases)) ≡ setup .slots) × (at + 8 ≤ length (now answers)) ⌝ }
+    ensures { λ r. ⌜ cardRan r (statusesIn (now (phases .exit))) (now (live .exit)) (now (cells .exit)) ≡ cardRun setup (now (defaults .entry)) «record» (state dev (statusesIn (now (phases .entry))) (now (live .entry)) (now (cells .entry))) ⌝ }
     ensures { λ r. ⌜ now (answers .exit) ≡ paste (now (answers .entry)) at (answerBytes (r .reply)) 8 ⌝ }
 {
-    let x = run_card(setup, dev, statuses, live, defaults, cells, record);
+    let x = run_card(setup, dev, phases, live, defaults, cells, record);
     answer(answers, at, x.reply);
     x
 }

@@ -1,6 +1,6 @@
 // The queue of FRS messages at the root port: a ring over lent cells, with its two status bits and what a record counts.
 ghost use mathlib.Core.Path.{_≡_};
-ghost use Prim.Native.Nat.{_≤_, _<_};
+ghost use Prim.Native.Nat.{_%_, _≤_, _<_};
 ghost use Rattle.frs_queue.specs.Queue.{Ring, ring, counted as countedOf, rises, placeOf, cellOf, tallyQueued, tallyDropped, arrives, removed, emptied, registerOf};
 
 // A Function Readiness Status message: the requester ID and the reason.
@@ -52,12 +52,20 @@ fn raised(already: bool, enabled: bool, bit: bool) -> bool
     }
 }
 
+// A cell's number modulo n; no division where it is one of the n.
+fn in_ring(start: usize, n: usize) -> usize
+    requires { ⌜ 0 < n ⌝ }
+    ensures { λ r. ⌜ r ≡ start % n ⌝ }
+{
+    if start < n { start } else { start % n }
+}
+
 // The cell of the message that stands k places behind the oldest, in a ring of n cells.
 fn place(start: usize, k: usize, n: usize) -> usize
     requires { ⌜ (0 < n) × (k ≤ n) ⌝ }
     ensures { λ r. ⌜ r ≡ placeOf n start k ⌝ }
 {
-    let first = start % n;
+    let first = in_ring(start, n);
     let room = n - first;
     if k < room { first + k } else { k - room }
 }

@@ -9,3 +9,4 @@ pub mod Settling
 pub mod Statuses
 pub mod Bounds
 pub mod Insertion
+pub mod PhaseNumbers

@@ -1,6 +1,6 @@
 -- The slot that becomes Ready next.
 -- Assumes nothing.
-use Prim.Native.Nat.{ℕ, zero, suc, _+_, _<_}
+use Prim.Native.Nat.{ℕ, zero, suc, _+_, _≤_, _<_}
 use native.Mathlib.Omega.{arith}
 use mathlib.Core.Path.{_≡_, refl, sym, ap, subst, _∙_}
 use mathlib.Core.Bool.{Bool, true, false, cond}
@@ -162,7 +162,7 @@ pub record Next (clock : Nanos) (l : List Status) (slot : ℕ) (d : Status) : Ty
   pub first : firstDue (due clock l) ≡ At slot cause time
   pub pends : getD l slot d .phase ≡ Pending cause time
 
-pub some-next : (clock : Nanos) (l : List Status) (slot : ℕ) (d : Status) → length l ≡ 32 → slot ≡ nextSlot (firstDue (due clock l)) → slot < 32 → Next clock l slot d
+pub some-next : (clock : Nanos) (l : List Status) (slot : ℕ) (d : Status) → length l ≤ 32 → slot ≡ nextSlot (firstDue (due clock l)) → slot < length l → Next clock l slot d
 some-next clock l slot d n e h = go (due clock l) refl e
   where
     go : (es : List Event) → due clock l ≡ es → slot ≡ nextSlot (firstDue es) → Next clock l slot d

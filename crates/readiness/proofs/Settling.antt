@@ -2,7 +2,7 @@
 -- Assumes nothing.
 use Prim.Native.Nat.{ℕ, suc, _-_, _≤_, _<_}
 use native.Mathlib.Omega.{arith}
-use mathlib.Core.Path.{_≡_, refl, sym, ap, subst, _∙_}
+use mathlib.Core.Path.{_≡_, refl, sym, ap, _∙_}
 use mathlib.Core.Bool.{Bool, true, false, cond}
 use mathlib.Core.List.{List, [], _∷_}
 use lib.ListN.{length, getD, set}
@@ -32,12 +32,9 @@ module _ (setup : Setup) (clock : Nanos) where
     unfolding happenAll
     turns = ap (happenAll setup (due clock (after .statuses))) e ∙ sym (ap (λ (l : List Event). happenAll setup l s) left-over)
 
-pub below-32 : (clock : Nanos) (l : List Status) → length l ≡ 32 → below 32 (firstDue (due clock l))
-below-32 clock l n = subst (λ (m : ℕ). below m (firstDue (due clock l))) n (first-below clock l)
-
 -- the slots that are left stand in the first j places, the next of them last
 module _ (clock : Nanos) (l : List Status) (slots : List ℕ) (j : ℕ) (e : downFrom slots j ≡ numbers slotOf (due clock l)) where
-  pub left-most : length l ≡ 32 → j ≤ 32
+  pub left-most : length l ≤ 32 → j ≤ 32
   left-most n = omega (arith, down-length slots j, ap length e, numbers-length slotOf (due clock l), due-length 0 clock l)
 
   pub left-none : j ≡ 0 → due clock l ≡ []
@@ -61,18 +58,18 @@ module _ (clock : Nanos) (l : List Status) (slots : List ℕ) (j : ℕ) (e : dow
         go [] q = let o : _≡_ {A = ℕ} 0 1 = cc in absurd (omega arith)
         go (f ∷ es) q = cc
 
-    pub left-below : length l ≡ 32 → getD slots (j - 1) 0 < 32
+    pub left-below : getD slots (j - 1) 0 < length l
     unfolding numbers
-    left-below n = go (due clock l) (sym reads-next ∙ e) (below-32 clock l n)
+    left-below = go (due clock l) (sym reads-next ∙ e) (first-below clock l)
       where
-        go : (es : List Event) → getD slots (j - 1) 0 ∷ downFrom slots (j - 1) ≡ numbers slotOf es → below 32 (firstDue es) → getD slots (j - 1) 0 < 32
+        go : (es : List Event) → getD slots (j - 1) 0 ∷ downFrom slots (j - 1) ≡ numbers slotOf es → below (length l) (firstDue es) → getD slots (j - 1) 0 < length l
         go [] q b = let o : _≡_ {A = ℕ} 0 1 = cc in absurd (omega arith)
         go (f ∷ es) q b = let k : getD slots (j - 1) 0 ≡ f .slot = cc in omega arith
 
-    pub left-rest : length l ≡ 32 → downFrom slots (j - 1) ≡ numbers slotOf (due clock (set l (getD slots (j - 1) 0) ready))
+    pub left-rest : length l ≤ 32 → downFrom slots (j - 1) ≡ numbers slotOf (due clock (set l (getD slots (j - 1) 0) ready))
     unfolding numbers
     left-rest n =
-        let k = some-next clock l (getD slots (j - 1) 0) ready n left-next (left-below n) in
+        let k = some-next clock l (getD slots (j - 1) 0) ready n left-next left-below in
         let o = sym reads-next ∙ e ∙ ap (numbers slotOf) (found clock l (getD slots (j - 1) 0) (k .cause) (k .time) (k .first) .others) in
         cc
 
@@ -81,17 +78,17 @@ pub left-stops : (setup : Setup) (clock : Nanos) (s : Scene) → due clock (s .s
 unfolding happenAll
 left-stops setup clock s e = sym (ap (λ (l : List Event). happenAll setup l s) e)
 
-module _ (setup : Setup) (clock : Nanos) (s : Scene) (slot : ℕ) (d : Status) (r : Root) (n : length (s .statuses) ≡ 32)
-    (e : slot ≡ nextSlot (firstDue (due clock (s .statuses)))) (h : slot < 32)
+module _ (setup : Setup) (clock : Nanos) (s : Scene) (slot : ℕ) (d : Status) (l : List Status) (r : Root) (put : l ≡ set (s .statuses) slot ready) (n : length (s .statuses) ≤ 32)
+    (e : slot ≡ nextSlot (firstDue (due clock (s .statuses)))) (h : slot < length (s .statuses))
     (arrives : (cause : Cause) (time : Nanos) → getD (s .statuses) slot d .phase ≡ Pending cause time → r ≡ frsArrive (frsOfSlot (setup .bus) (entryOf setup slot) slot cause) (s .root)) where
-  happened : (k : Next clock (s .statuses) slot d) → record { statuses = set (s .statuses) slot ready; root = r } ≡ happens setup (record { slot = slot; cause = k .cause; time = k .time }) s
+  happened : (k : Next clock (s .statuses) slot d) → record { statuses = l; root = r } ≡ happens setup (record { slot = slot; cause = k .cause; time = k .time }) s
   unfolding happens frsOf
-  happened k = ap (λ (y : Root). record { statuses = set (s .statuses) slot ready; root = y }) (arrives (k .cause) (k .time) (k .pends))
+  happened k = let q = arrives (k .cause) (k .time) (k .pends) in λ j. record { statuses = put j; root = q j }
 
-  pub next-turns : happenAll setup (due clock (set (s .statuses) slot ready)) (record { statuses = set (s .statuses) slot ready; root = r }) ≡ happenAll setup (due clock (s .statuses)) s
+  pub next-turns : happenAll setup (due clock l) (record { statuses = l; root = r }) ≡ happenAll setup (due clock (s .statuses)) s
   next-turns =
       let k = some-next clock (s .statuses) slot d n e h in
-      turns setup clock s (record { statuses = set (s .statuses) slot ready; root = r }) slot (k .cause) (k .time) (k .first) (happened k)
+      turns setup clock s (record { statuses = l; root = r }) slot (k .cause) (k .time) (k .first) (happened k)
 
 -- then the DRS, where it is due
 module _ (setup : Setup) (x : Scene) where

@@ -5,10 +5,10 @@ use native.Mathlib.Numerals.{add-one}
 use native.Mathlib.Omega.{arith}
 use mathlib.Core.Path.{_≡_, refl, sym, ap, ap₂, _∙_}
 use mathlib.Core.Bool.{Bool, true, false, _&&_, cond}
-use mathlib.Core.List.{List, [], _∷_}
+use mathlib.Core.List.{List, [], _∷_, _++_}
 use lib.Dec.{ltb}
-use lib.ListN.{length, getD, take, drop, set, length-take, drop-of-length-le}
-use lib.Seq.{drop-cons, getD-take}
+use lib.ListN.{length, getD, take, drop, set, drop-of-length-le}
+use lib.Seq.{drop-cons, take-suc, take-suc-set, take-all}
 use borrow.Author.Tests.{lt-ltb, le-ltb, ltb-true, ltb-false}
 use Rattle.readiness.specs.declared.Status.{Status}
 use Rattle.readiness.specs.Status.{isReady, allReady, eachFrom}
@@ -21,14 +21,17 @@ pub ready-end : (l : List Status) (i : ℕ) → length l ≤ i → allReady (dro
 unfolding allReady
 ready-end l i h = rw (drop-of-length-le l h)
 
--- the same of the first n slots
-pub ready-below : (l : List Status) (d : Status) (n i : ℕ) (b : Bool) → n ≤ length l → i < n → isReady (getD l i d) ≡ b → allReady (drop i (take n l)) ≡ (b && allReady (drop (i + 1) (take n l)))
-ready-below l d n i b h k e =
-    let m : length (take n l) ≡ n = simp length-take (omega arith) in
-    ready-cons (take n l) d i b (omega arith) (ap isReady (getD-take n l i d k) ∙ e)
+-- one slot more of a list is the same as another's
+pub take-put : (l m : List Status) (d s : Status) (i : ℕ) → i < length l → i < length m → take i l ≡ take i m → s ≡ getD m i d → take (i + 1) (set l i s) ≡ take (i + 1) m
+take-put l m d s i h k e q =
+    ap (λ (n : ℕ). take n (set l i s)) (add-one i)
+    ∙ take-suc-set l i s h
+    ∙ ap₂ (λ (r : List Status) (v : Status). r ++ (v ∷ [])) e q
+    ∙ sym (take-suc m i d k)
+    ∙ ap (λ (n : ℕ). take n m) (sym (add-one i))
 
-pub ready-past : (l : List Status) (n i : ℕ) → n ≤ i → allReady (drop i (take n l)) ≡ true
-ready-past l n i h = ready-end (take n l) i (simp length-take (omega arith))
+pub take-both : (l m : List Status) (i : ℕ) → length l ≤ i → length m ≤ i → take i l ≡ take i m → l ≡ m
+take-both l m i h k e = sym (take-all i l h) ∙ e ∙ take-all i m k
 
 module _ (f : ℕ → Status) where
   -- where no slot is the card's, nothing changes

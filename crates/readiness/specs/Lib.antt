@@ -5,3 +5,4 @@ pub mod Next
 pub mod Prepared
 pub mod Settle
 pub mod Earliest
+pub mod Phases

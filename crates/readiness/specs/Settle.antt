@@ -10,7 +10,7 @@ use Rattle.frs_queue.specs.declared.Frs.{Frs}
 use Rattle.readiness.specs.declared.Status.{Status}
 use Rattle.readiness.specs.declared.Slot.{Slot}
 use Rattle.readiness.specs.declared.Setup.{Setup}
-use Rattle.readiness.specs.declared.Settled.{Settled}
+use Rattle.readiness.specs.declared.RootPort.{RootPort}
 use Rattle.readiness.specs.declared.SlotSettled.{SlotSettled}
 use Rattle.readiness.specs.Status.{ready, allReady}
 use Rattle.readiness.specs.Root.{Root, root, frsArrive, drsArrives, nothingOwed, frsOfDrs}
@@ -21,8 +21,8 @@ pub record Scene : Type 0 where
   pub statuses : List Status
   pub root : Root
 
-abbrev pub scene : List ℕ → Settled → Scene
-scene cells s = record { statuses = s .statuses; root = root cells (s .port) }
+abbrev pub scene : List Status → (cells : List ℕ) → RootPort → Scene
+scene statuses cells port = record { statuses = statuses; root = root cells port }
 
 -- a slot becomes Ready, and its FRS, if any, arrives
 unfoldable pub happens : Setup → Event → Scene → Scene

@@ -1,22 +1,27 @@
 // The slots' readiness: what starts a slot anew, which slots become Ready in which order, and what arrives at the root port then.
+pub mod phases; // slot statuses as numbers, which are changed in place
+
 ghost use mathlib.Core.Path.{_≡_};
 ghost use mathlib.Core.Bool.{not, _&&_, _||_, cond};
 ghost use mathlib.Core.List.{List, [], _∷_};
 ghost use Prim.Native.Nat.{ℕ, _+_, _≤_, _<_};
 ghost use lib.Dec.{eqb, ltb};
-ghost use lib.ListN.{take};
+ghost use lib.ListN.{length, getD};
 ghost use Rattle.times.specs.Codes.{nanosOf};
 ghost use Rattle.times.specs.Moments.{sumOf};
 ghost use Rattle.readiness.specs.Status.{isReady, allReady, pending, flrInProgress, startedByLinkUp, stoppedByReset, startedByFlr, startedByD3hot, afterLinkUp, afterReset, afterLinkDown, afterColdReset};
 ghost use Rattle.readiness.specs.Root.{root, frsArrive, drsSet, drsArrives, nothingOwed};
-ghost use Rattle.readiness.specs.Events.{Event, dueEvent, insert, due, frsOfSlot};
+ghost use Rattle.readiness.specs.Events.{Event, dueEvent, insert, due, frsReason, frsOfSlot};
 ghost use Rattle.readiness.specs.Next.{firstDue, dueBy};
 ghost use Rattle.readiness.specs.Prepared.{downFrom, numbers, slotOf, Prepared};
 ghost use Rattle.readiness.specs.Earliest.{readyTime, earliestReady};
-ghost use Rattle.readiness.specs.Settle.{scene, settles, advances, slotScene, slotSettles};
+ghost use Rattle.readiness.specs.Settle.{scene, settles, slotScene, slotSettles};
+ghost use Rattle.readiness.specs.Phases.{statusesIn};
 use frs_queue::Frs;
 use frs_queue::Queue;
 use frs_queue::Tally;
+use phases::put_status;
+use phases::status_at;
 use times::Code;
 use times::Nanos;
 
@@ -78,11 +83,6 @@ pub struct RootPort {
     pub tally: Tally,
 }
 
-pub struct Settled {
-    pub statuses: [Status; 32],
-    pub port: RootPort,
-}
-
 pub struct SlotSettled {
     pub status: Status,
     pub port: RootPort,
@@ -90,7 +90,7 @@ pub struct SlotSettled {
 
 // Slots in an order that is read from the last of count places down.
 struct InOrder {
-    slots: [usize; 32],
+    slots: [u8; 32],
     count: usize,
 }
 
@@ -115,12 +115,13 @@ pub fn is_ready(status: Status) -> bool
 }
 
 // Whether all slots are Ready.
-pub fn all_ready(statuses: [Status; 32]) -> bool
-    ensures { λ r. ⌜ r ≡ allReady statuses ⌝ }
+pub fn all_ready(slots: usize, phases: &[u64]) -> bool
+    requires { ⌜ length (statusesIn (now phases)) ≡ slots ⌝ }
+    ensures { λ r. ⌜ r ≡ allReady (statusesIn (now (phases .entry))) ⌝ }
 {
     let mut i: usize = 0;
-    while i < 32 {
-        let s = statuses[i];
+    while i < slots {
+        let s = status_at(phases, i);
         if is_ready(s) {
             i += 1;
         } else {
@@ -166,20 +167,18 @@ fn link_up_status(clock: Nanos, entry: Slot) -> Status
     }
 }
 
-// The statuses at link up.
-pub fn link_up_statuses(setup: Setup, dev: Dev, statuses: [Status; 32]) -> [Status; 32]
-    ensures { λ r. ⌜ r ≡ startedByLinkUp setup dev statuses ⌝ }
+// Link up: every slot is starting.
+pub fn start_all(setup: Setup, dev: Dev, phases: &mut [u64])
+    requires { ⌜ (setup .slots ≤ 32) × (length (statusesIn (now phases)) ≡ setup .slots) ⌝ }
+    ensures { λ _. ⌜ statusesIn (now (phases .exit)) ≡ startedByLinkUp setup dev (statusesIn (now (phases .entry))) ⌝ }
 {
     let clock = dev.clock;
-    let n = slots_of(setup.slots);
-    let mut out = statuses;
     let mut i: usize = 0;
-    while i < n {
+    while i < setup.slots {
         let entry = setup.entries[i];
-        out[i] = link_up_status(clock, entry);
+        put_status(&mut *phases, i, link_up_status(clock, entry));
         i += 1;
     }
-    out
 }
 
 // The device after link up: a DRS is owed.
@@ -204,6 +203,18 @@ pub fn reset_statuses(setup: Setup, statuses: [Status; 32]) -> [Status; 32]
         i += 1;
     }
     out
+}
+
+// Link down or cold reset: every slot is Down.
+pub fn stop_all(setup: Setup, phases: &mut [u64])
+    requires { ⌜ length (statusesIn (now phases)) ≡ setup .slots ⌝ }
+    ensures { λ _. ⌜ statusesIn (now (phases .exit)) ≡ stoppedByReset setup (statusesIn (now (phases .entry))) ⌝ }
+{
+    let mut i: usize = 0;
+    while i < setup.slots {
+        put_status(&mut *phases, i, Status { phase: Phase::Down });
+        i += 1;
+    }
 }
 
 // The device after link down or cold reset: link down, nothing owed, queue emptied.
@@ -388,7 +399,7 @@ fn ready_time(status: Status) -> Nanos
 }
 
 // A slot goes among the first n of an order that is read from its last place down: behind those with an earlier ready time.
-fn put_in(times: &mut [u64; 32], slots: &mut [usize; 32], n: usize, time: u64, slot: usize)
+fn put_in(times: &mut [u64; 32], slots: &mut [u8; 32], n: usize, time: u64, slot: u8)
     requires { ⌜ n < 32 ⌝ }
     ensures { λ r. ⌜ ((cause : Cause) (es : List Event) → Prepared (now (times .entry)) (now (slots .entry)) n es → Prepared (now (times .exit)) (now (slots .exit)) (n + 1) (insert (record { slot = slot; cause = cause; time = record { 0 = time } }) es)) ⌝ }
 {
@@ -408,40 +419,54 @@ fn put_in(times: &mut [u64; 32], slots: &mut [usize; 32], n: usize, time: u64, s
 }
 
 // The slots whose ready time is at or before the clock, in the order in which they become Ready: from the last place down.
-fn prepare(clock: Nanos, statuses: [Status; 32]) -> InOrder
-    ensures { λ r. ⌜ downFrom (r .slots) (r .count) ≡ numbers slotOf (due clock statuses) ⌝ }
+fn prepare(clock: Nanos, slots: usize, phases: &[u64]) -> InOrder
+    requires { ⌜ (slots ≤ 32) × (length (statusesIn (now phases)) ≡ slots) ⌝ }
+    ensures { λ r. ⌜ downFrom (r .slots) (r .count) ≡ numbers slotOf (due clock (statusesIn (now (phases .entry)))) ⌝ }
 {
     let mut times: [u64; 32] = [0; 32];
-    let mut slots: [usize; 32] = [0; 32];
+    let mut order: [u8; 32] = [0; 32];
     let mut n: usize = 0;
-    let mut i: usize = 32;
+    let mut i: usize = slots;
     while 0 < i {
         i = i - 1;
-        let s = statuses[i];
+        let s = status_at(phases, i);
         if due_by(clock, s) {
             let time = times::nanos_number(ready_time(s));
-            put_in(&mut times, &mut slots, n, time, i);
+            let slot = (i % 256) as u8;
+            put_in(&mut times, &mut order, n, time, slot);
             n += 1;
         }
     }
     InOrder {
-        slots: slots,
+        slots: order,
         count: n,
     }
 }
 
 // The earliest ready time of all Pending slots; the greatest moment there is where no slot is Pending.
-pub fn earliest_ready(statuses: [Status; 32]) -> Nanos
-    ensures { λ r. ⌜ r ≡ earliestReady statuses ⌝ }
+pub fn earliest_ready(slots: usize, phases: &[u64]) -> Nanos
+    requires { ⌜ length (statusesIn (now phases)) ≡ slots ⌝ }
+    ensures { λ r. ⌜ r ≡ earliestReady (statusesIn (now (phases .entry))) ⌝ }
 {
     let mut best = times::nanos_of(18446744073709551615);
-    let mut i: usize = 32;
+    let mut i: usize = slots;
     while 0 < i {
         i = i - 1;
-        let s = statuses[i];
+        let s = status_at(phases, i);
         best = times::least(ready_time(s), best);
     }
     best
+}
+
+// The FRS reason after FLR and D3hot; 0 after link up, which sends none.
+fn frs_reason(cause: Cause) -> u8
+    ensures { λ r. ⌜ r ≡ getD (frsReason cause) 0 0 ⌝ }
+{
+    match cause {
+        Cause::LinkUp => 0,
+        Cause::Flr(_) => 3,
+        Cause::D3hot => 2,
+    }
 }
 
 // The FRS of a slot that becomes Ready arrives, if its cause was FLR or D3hot and the slot sends FRS.
@@ -456,16 +481,19 @@ fn slot_frs_arrives(
     requires { ⌜ slot < 32 ⌝ }
     ensures { λ r. ⌜ root (now (cells .exit)) r ≡ frsArrive (frsOfSlot bus entry slot cause) (root (now (cells .entry)) port) ⌝ }
 {
-    if entry.sends_frs {
-        let id = 256 * bus as u16 + slot as u16;
-        match cause {
-            Cause::LinkUp => port,
-            Cause::Flr(_) => frs_arrives(port, cells, Frs { id: id, reason: 3 }),
-            Cause::D3hot => frs_arrives(port, cells, Frs { id: id, reason: 2 }),
-        }
-    } else {
-        port
+    if !entry.sends_frs {
+        return port;
     }
+    let reason = frs_reason(cause);
+    if reason == 0 {
+        return port;
+    }
+    let id = 256 * bus as u16 + slot as u16;
+    let frs = Frs {
+        id: id,
+        reason: reason,
+    };
+    frs_arrives(port, cells, frs)
 }
 
 // One slot becomes Ready if its ready time is at or before the clock, and its FRS, if any, arrives.
@@ -518,30 +546,13 @@ fn status_frs_arrives(
     }
 }
 
-// Whether the first n slots are Ready.
-fn ready_below(statuses: [Status; 32], n: usize) -> bool
-    requires { ⌜ n ≤ 32 ⌝ }
-    ensures { λ r. ⌜ r ≡ allReady (take n statuses) ⌝ }
-{
-    let mut i: usize = 0;
-    while i < n {
-        let s = statuses[i];
-        if is_ready(s) {
-            i += 1;
-        } else {
-            return false;
-        }
-    }
-    true
-}
-
-// Whether a DRS is owed and the first n slots are Ready.
-fn drs_is_due(owed: bool, statuses: [Status; 32], n: usize) -> bool
-    requires { ⌜ n ≤ 32 ⌝ }
-    ensures { λ r. ⌜ r ≡ (owed && allReady (take n statuses)) ⌝ }
+// Whether a DRS is owed and all slots are Ready.
+fn drs_is_due(owed: bool, slots: usize, phases: &[u64]) -> bool
+    requires { ⌜ length (statusesIn (now phases)) ≡ slots ⌝ }
+    ensures { λ r. ⌜ r ≡ (owed && allReady (statusesIn (now (phases .entry)))) ⌝ }
 {
     if owed {
-        ready_below(statuses, n)
+        all_ready(slots, phases)
     } else {
         false
     }
@@ -558,49 +569,28 @@ fn tell(is_due: bool, port: RootPort, cells: &mut [u32], port_id: u16) -> RootPo
 }
 
 // What is due at the clock happens: slots become Ready in order, then the DRS is received if it is due.
-pub fn settle(setup: Setup, statuses: [Status; 32], port: RootPort, cells: &mut [u32]) -> Settled
-    ensures { λ r. ⌜ scene (now (cells .exit)) r ≡ settles setup (record { statuses = statuses; root = root (now (cells .entry)) port }) ⌝ }
+pub fn settle(setup: Setup, phases: &mut [u64], port: RootPort, cells: &mut [u32]) -> RootPort
+    requires { ⌜ (setup .slots ≤ 32) × (length (statusesIn (now phases)) ≡ setup .slots) ⌝ }
+    ensures { λ r. ⌜ scene (statusesIn (now (phases .exit))) (now (cells .exit)) r ≡ settles setup (scene (statusesIn (now (phases .entry))) (now (cells .entry)) port) ⌝ }
 {
     let clock = port.dev.clock;
-    let order = prepare(clock, statuses);
+    let order = prepare(clock, setup.slots, phases);
     let mut left = order.count;
-    let mut after = statuses;
     let mut p = port;
     while 0 < left {
         left = left - 1;
-        let slot = order.slots[left];
-        let s = after[slot];
+        let slot = order.slots[left] as usize;
+        let s = status_at(phases, slot);
         let entry = setup.entries[slot];
-        after[slot] = Status {
-            phase: Phase::Ready,
-        };
+        put_status(
+            &mut *phases,
+            slot,
+            Status {
+                phase: Phase::Ready,
+            },
+        );
         p = status_frs_arrives(setup.bus, entry, slot, s, p, &mut *cells);
     }
-    let is_due = drs_is_due(p.dev.owed, after, 32);
-    let told = tell(is_due, p, cells, setup.port_id);
-    Settled {
-        statuses: after,
-        port: told,
-    }
-}
-
-// The clock advances, and what becomes due on the way happens.
-pub fn advance(
-    setup: Setup,
-    statuses: [Status; 32],
-    port: RootPort,
-    cells: &mut [u32],
-    by: Nanos,
-) -> Settled
-    ensures { λ r. ⌜ scene (now (cells .exit)) r ≡ advances setup by (record { statuses = statuses; root = root (now (cells .entry)) port }) ⌝ }
-{
-    let mut dev = port.dev;
-    let clock = times::sum(dev.clock, by);
-    dev.clock = clock;
-    let tally = port.tally;
-    let p = RootPort {
-        dev: dev,
-        tally: tally,
-    };
-    settle(setup, statuses, p, cells)
+    let is_due = drs_is_due(p.dev.owed, setup.slots, phases);
+    tell(is_due, p, cells, setup.port_id)
 }

@@ -9,6 +9,7 @@ use Rattle.registers.specs.declared.Kind.{Kind}
 use Rattle.frs_queue.specs.Queue.{noTally}
 use Rattle.readiness.specs.declared.Slot.{Slot}
 use Rattle.readiness.specs.declared.Setup.{Setup}
+use Rattle.readiness.specs.declared.Status.{Status}
 use Rattle.readiness.specs.Settle.{SlotScene, slotSettles}
 use Rattle.records.specs.declared.Record.{Record}
 use Rattle.records.specs.declared.Record.the-variants.{Advance, Read, Write, Message, LinkUp, LinkDown, ColdReset, ReadQueue, RemoveOldest, ClearBits, Control, HardwareSet, ReadBits, NoKind}
@@ -17,7 +18,8 @@ use Rattle.records.specs.declared.Part.{Part}
 use Rattle.records.specs.declared.Part.the-variants.{OneSlot, PortAlone, WholeCard}
 use Rattle.records.specs.declared.SlotDone.{SlotDone}
 use Rattle.records.specs.declared.PortDone.{PortDone}
-use Rattle.records.specs.declared.CardDone.{CardDone}
+use Rattle.records.specs.declared.Started.{Started}
+use Rattle.records.specs.declared.Started.the-variants as started
 use Rattle.records.specs.State.{State, state, Seat, seat}
 use Rattle.records.specs.Answer.{Effect, refused, does, Ran, reply, answered}
 use Rattle.records.specs.Requests.{readEffect, writeEffect, hardwareEffect}
@@ -124,8 +126,17 @@ cardEffect setup defaults NoKind s = refused completion.Done 0
 unfoldable pub cardRun : Setup → (defaults : List ℕ) → Record → State → Ran State
 cardRun setup defaults r s = answered setup s (cardEffect setup defaults r s)
 
-abbrev pub cardRan : CardDone → (live cells : List ℕ) → Ran State
-cardRan x live cells = record { after = state (x .dev) (x .statuses) live cells; reply = x .reply }
+abbrev pub cardRan : PortDone → (statuses : List Status) → (live cells : List ℕ) → Ran State
+cardRan x statuses live cells = record { after = state (x .dev) statuses live cells; reply = x .reply }
+
+-- what a record has done before slots become Ready, with the statuses and the live registers that it left
+abbrev pub startedEffect : Started → (statuses : List Status) → (live cells : List ℕ) → Effect State
+startedEffect (started.Refused completion) statuses live cells = refused completion 0
+startedEffect (started.Does dev) statuses live cells = does (state dev statuses live cells) noTally 0
+
+abbrev pub isRefused : Started → Bool
+isRefused (started.Refused completion) = true
+isRefused (started.Does dev) = false
 
 -- ---- a part put back into the state
 abbrev pub slotPut : State → (slot : ℕ) → Ran Seat → Ran State

@@ -1,5 +1,6 @@
 // The thirteen records: their types, and in specs/ what each does to the device and how it is answered.
 
+use frs_queue::Queue;
 use frs_queue::Tally;
 use messages::Message;
 use readiness::Cause;
@@ -117,9 +118,15 @@ pub struct PortDone {
     pub reply: Reply,
 }
 
-// What a record leaves that touches every slot.
-pub struct CardDone {
-    pub dev: Dev,
-    pub statuses: [Status; 32],
+// What a record that touches every slot does before slots become Ready: it is answered with this completion and changes nothing, or it is
+// done and leaves this device.
+pub enum Started {
+    Refused(Completion),
+    Does(Dev),
+}
+
+// What an FRS leaves that arrives by a message.
+pub struct QueueDone {
+    pub queue: Queue,
     pub reply: Reply,
 }

@@ -1,6 +1,6 @@
 -- Each definition by kind and word as the code computes it, and each operation's bit as the code computes it.
 -- Assumes nothing.
-use mathlib.Core.Path.{_≡_, refl, sym, ap, _∙_}
+use mathlib.Core.Path.{_≡_, refl, sym, subst, _∙_}
 use mathlib.Core.Bool.{Bool, true, false, not, _&&_, _||_, cond}
 use mathlib.Core.List.{List, [], _∷_}
 use Prim.Native.Nat.{ℕ, _*_, _<_, _≤_}
@@ -39,16 +39,25 @@ pub endpoint-past : (i : ℕ) → 64 ≤ i → endpointRow i ≡ noBits
 unfolding endpointRow endpointTable within
 endpoint-past i h = past endpointTable tt (i * 4) (omega arith)
 
+-- of a test that the words below 64 pass: a word passes it that would with no bits
+every-row : (test : ℕ → Row → Bool) → T (all 64 (λ i. test i (endpointRow i))) → (i : ℕ) → T (test i noBits) → T (test i (endpointRow i))
+every-row test t i z =
+    let by : (b : Bool) → ltb i 64 ≡ b → T (test i (endpointRow i)) =
+    elim [
+      | true ↦ λ l. all-at 64 (λ i. test i (endpointRow i)) t i (ltb-true i 64 l)
+      | false ↦ λ l. subst (λ (r : Row). T (test i r)) (sym (endpoint-past i (ltb-false i 64 l))) z
+    ] in
+    by (ltb i 64) refl
+
 -- a mask that is 0 at every word below 64 but some is 0 at every other word: one test over the table
 pub none-else : (mask : Row → ℕ) (some : ℕ → Bool) → T (all 64 (λ i. some i || eqb (mask (endpointRow i)) 0)) → mask noBits ≡ 0
     → (i : ℕ) → some i ≡ false → 0 ≡ mask (endpointRow i)
-none-else mask some t z i e =
-    let by : (b : Bool) → ltb i 64 ≡ b → 0 ≡ mask (endpointRow i) =
-    elim [
-      | true ↦ λ l. sym (eqb→eq _ 0 (rw e at (all-at 64 (λ i. some i || eqb (mask (endpointRow i)) 0) t i (ltb-true i 64 l))))
-      | false ↦ λ l. sym (ap mask (endpoint-past i (ltb-false i 64 l)) ∙ z)
-    ] in
-    by (ltb i 64) refl
+none-else mask some t z i e = sym (eqb→eq _ 0 (rw e at (every-row (λ i r. some i || eqb (mask r) 0) t i (rw (e, z) tt))))
+
+-- W has 32 bits
+pub w-fits : (i : ℕ) → endpointRow i .w < 4294967296
+unfolding endpointRow
+w-fits i = ltb→lt _ _ (every-row (λ i r. ltb (r .w) 4294967296) tt i tt)
 
 pub row-of-kind : (kind : Kind) (i : ℕ) → endpointRow i ≡ rowOf kind i
 unfolding rowOf

@@ -38,43 +38,58 @@ const INITIATE_FLR: u32 = 0x00008000;
 
 const FLR_CAPABLE: u32 = 0x10000000;
 
-// The bits of an endpoint's word i that software writes.
-fn endpoint_w(i: usize) -> u32
-    ensures { λ r. ⌜ r ≡ endpointRow i .w ⌝ }
+// The bits of an endpoint's word i that software writes, and 2^32 times those that are cleared by writing 1. Every word up to the
+// last listed one has an arm, so that the compiler makes a table of it.
+fn endpoint_wc(i: usize) -> u64
+    ensures { λ r. ⌜ r ≡ endpointRow i .c * 4294967296 + endpointRow i .w ⌝ }
 {
-    match i {
-        // 04h command, status
-        1 => 0x00000547,
-        // 0Ch cache line
-        3 => 0x000000FF,
-        // 10h BAR0
-        4 => 0xFFFF0000,
-        // 3Ch interrupt line
-        15 => 0x000000FF,
-        // 44h PMCSR
-        17 => 0x00000103,
-        // 50h MSI control
-        20 => 0x00710000,
-        // 54h MSI address
-        21 => 0xFFFFFFFC,
-        // 58h MSI data
-        22 => 0x0000FFFF,
-        // 78h device control, status
-        30 => 0x000079FF,
-        // 80h link control
-        32 => 0x000000CB,
-        _ => 0,
+    if 32 < i {
+        return 0;
     }
-}
-
-// The bits of word i that are cleared by writing 1: of 04h, 44h and 78h.
-fn endpoint_c(i: usize) -> u32
-    ensures { λ r. ⌜ r ≡ endpointRow i .c ⌝ }
-{
     match i {
-        1 => 0xF9000000,
-        17 => 0x00008000,
-        30 => 0x000F0000,
+        0 => 0,
+        // 04h command, status
+        1 => 0xF900000000000547,
+        2 => 0,
+        // 0Ch cache line
+        3 => 0x00000000000000FF,
+        // 10h BAR0
+        4 => 0x00000000FFFF0000,
+        5 => 0,
+        6 => 0,
+        7 => 0,
+        8 => 0,
+        9 => 0,
+        10 => 0,
+        11 => 0,
+        12 => 0,
+        13 => 0,
+        14 => 0,
+        // 3Ch interrupt line
+        15 => 0x00000000000000FF,
+        16 => 0,
+        // 44h PMCSR
+        17 => 0x0000800000000103,
+        18 => 0,
+        19 => 0,
+        // 50h MSI control
+        20 => 0x0000000000710000,
+        // 54h MSI address
+        21 => 0x00000000FFFFFFFC,
+        // 58h MSI data
+        22 => 0x000000000000FFFF,
+        23 => 0,
+        24 => 0,
+        25 => 0,
+        26 => 0,
+        27 => 0,
+        28 => 0,
+        29 => 0,
+        // 78h device control, status
+        30 => 0x000F0000000079FF,
+        31 => 0,
+        // 80h link control
+        32 => 0x00000000000000CB,
         _ => 0,
     }
 }
@@ -104,9 +119,10 @@ fn endpoint_k(i: usize) -> u32
 fn endpoint_row(i: usize) -> Row
     ensures { λ r. ⌜ r ≡ endpointRow i ⌝ }
 {
+    let wc = endpoint_wc(i);
     Row {
-        w: endpoint_w(i),
-        c: endpoint_c(i),
+        w: (wc % 4294967296) as u32,
+        c: (wc / 4294967296) as u32,
         s: endpoint_s(i),
         k: endpoint_k(i),
     }

@@ -1,47 +1,84 @@
 -- `exports::feed_pieces` meets its contract. The loop has made some of the calls; a call that gives 0 consumes something.
 -- Assumes nothing.
-use Prim.Native.Nat.{ℕ, suc, _+_, _-_, _^_, _≤_, _<_}
+use Prim.Native.Nat.{ℕ, suc, _+_, _-_, _*_, _^_, _≤_, _<_}
 use mathlib.Core.Path.{_≡_, refl, ap, sym, _∙_}
 use mathlib.Core.Bool.{cond}
+use mathlib.Core.List.{List, _++_}
 use mathlib.Core.Logic.{⊎-elim}
 use native.Mathlib.Omega.{arith}
 use borrow.Author.Tests.{eqb-false}
 use lib.Dec.{eqb}
-use lib.ListN.{length}
+use lib.ListN.{length, take, drop, length-append, length-drop}
 use denote.Ref.{now}
 use borrow.Author.Needs.{needs}
 use Rattle.trace.specs.Lent.{Left}
+use Rattle.readiness.specs.declared.Status.{Status}
+use Rattle.readiness.specs.Phases.{statusesIn}
 use Rattle.feed.specs.Held.{Held, held, lentOf}
+use Rattle.feed.specs.Feeding.{feeds}
+use Rattle.feed.proofs.Lent.{in-place-lent}
 use Rattle.exports.specs.Pieces.{inPieces}
 use Rattle.exports.proofs.Pieces.{SoFar, starts, ends, turn, piece-bounds, less}
 use Rattle.exports.proofs.feed_pieces.Statement.{statement}
 use Rattle.exports.proofs.feed_pieces.Tie as tie
 
 abbrev Inv-loop : tie.InvT-loop
-Inv-loop setup first live₀ defaults cells₀ trace size answers₀ port₀ statuses₀ number₀ consumed₀ written₀ live cells answers port statuses number consumed written =
-    SoFar setup defaults size trace (inPieces setup defaults size first (held port₀ (lentOf (setup .slots) statuses₀) live₀ cells₀) trace answers₀) number consumed written (held port (lentOf (setup .slots) statuses) live cells) answers × (length live ≡ length live₀) × (length cells ≡ length cells₀) × (length answers ≡ length answers₀) × (length trace < 2 ^ 64) × (length answers₀ < 2 ^ 64)
+Inv-loop setup live₀ defaults cells₀ trace size answers₀ port₀ phases₀ places number₀ consumed₀ written₀ live cells answers port phases number consumed written =
+    SoFar setup defaults size trace (inPieces setup defaults size 0 (held port₀ (lentOf (setup .slots) (statusesIn phases₀)) live₀ cells₀) trace answers₀) number consumed written (held port (lentOf (setup .slots) (statusesIn phases)) live cells) answers
+    × (length live ≡ length live₀) × (length cells ≡ length cells₀) × (length answers ≡ length answers₀) × (length trace < 2 ^ 64) × (length answers₀ < 2 ^ 64) × (length phases ≡ 96)
 
 abbrev μ-loop : tie.MeasureT-loop
-μ-loop setup first live₀ defaults cells₀ trace size answers₀ port₀ statuses₀ number₀ consumed₀ written₀ live cells answers port statuses number consumed written =
+μ-loop setup live₀ defaults cells₀ trace size answers₀ port₀ phases₀ places number₀ consumed₀ written₀ live cells answers port phases number consumed written =
     cond (eqb number 0) (suc (length trace - consumed)) 0
 
 -- the head of the loop, and the function's entry
-abbrev head : tie.After-feed Inv-loop μ-loop → tie.At-loop Inv-loop μ-loop
-head c = c .before .before .before .before .before .before .before .before
+abbrev head : tie.After-feed-in-place Inv-loop μ-loop → tie.At-loop Inv-loop μ-loop
+head c = c .before .before .before .before .before .before .before .before .before
 
 abbrev entry : tie.At-loop Inv-loop μ-loop → tie.Start Inv-loop μ-loop
-entry c = c .before .before .before .before .before .before
+entry c = c .before .before .before .before .before .before .before .before
+
+-- the statuses as they are at the first call
+abbrev first : tie.At-loop Inv-loop μ-loop → List ℕ
+first c = c .before .before .in-numbers .result
 
 -- what the calls come to
 abbrev whole : tie.At-loop Inv-loop μ-loop → Left Held
 whole c =
     let a = entry c .args in
-    inPieces (a .setup) (now (a .defaults)) (a .size) (a .first) (held (a .start) (lentOf (a .setup .slots) (a .begun)) (now (a .live)) (now (a .cells))) (now (a .trace)) (now (a .answers))
+    inPieces (a .setup) (now (a .defaults)) (a .size) 0 (held (a .start) (lentOf (a .setup .slots) (statusesIn (first c))) (now (a .live)) (now (a .cells))) (now (a .trace)) (now (a .answers))
+
+-- a call, on the lent statuses
+called : (g : tie.After-phases2 Inv-loop μ-loop) → let l = head (g .before) in
+    let a = entry l .args in
+    let x = g .before .feed-in-place in
+    _≡_ {A = Left Held}
+    (record {
+      number = x .result .number;
+      consumed = x .result .consumed;
+      written = x .result .written;
+      held = held (x .result .port) (lentOf (a .setup .slots) (statusesIn (x .last .1 .1 .0 ++ drop (3 * a .setup .slots - 0) (l .loop .phases)))) (x .last .1 .1 .1 .0) (x .last .1 .1 .1 .1 .1 .0);
+      answers = x .last .1 .1 .1 .1 .1 .1 .1 .0;
+    })
+    (feeds (a .setup) (now (a .defaults)) (held (l .loop .port) (lentOf (a .setup .slots) (statusesIn (l .loop .phases))) (l .loop .live) (l .loop .cells))
+    (take (l .loop .consumed + g .before .before .before .before .before .before .before .next-piece .result - l .loop .consumed) (drop (l .loop .consumed) (now (a .trace)))) (take (length (l .loop .answers) - l .loop .written) (drop (l .loop .written) (l .loop .answers))))
+called g =
+    let l = head (g .before) in
+    let a = entry l .args in
+    let x = g .before .feed-in-place in
+    in-place-lent (a .setup) (now (a .defaults)) (a .setup .slots) (3 * a .setup .slots - 0) (l .loop .phases) (l .loop .port) (l .loop .live) (l .loop .cells) _ _ (x .result) (x .last .1 .1 .0) (drop (3 * a .setup .slots - 0) (l .loop .phases)) _ _ _
+    (omega arith) (omega (arith, l .loop .inv .6, entry l .pre)) (omega (arith, g .phases2 .given, g .before .before .before .before .before .before .phases .given .2)) (x .ensures)
+
+in-numbers-requires : tie.Need-in-numbers-requires Inv-loop μ-loop
+in-numbers-requires c κs = search needs
+
+mul-places : tie.Need-mul-places Inv-loop μ-loop
+mul-places c = omega (arith, c .before .before .before .before .before .before .before .pre)
 
 loop-holds : tie.Need-loop-holds Inv-loop μ-loop
 loop-holds c =
-    let a = c .before .before .before .before .before .args in
-    (starts (a .setup) (now (a .defaults)) (a .size) (now (a .trace)) _ (a .first) _ (now (a .answers)) refl, refl, refl, refl, search needs, search needs)
+    let a = c .before .before .before .before .before .before .before .args in
+    (starts (a .setup) (now (a .defaults)) (a .size) (now (a .trace)) _ 0 _ (now (a .answers)) refl, refl, refl, refl, search needs, search needs, search needs)
 
 sub-next-piece : tie.Need-sub-next-piece Inv-loop μ-loop
 sub-next-piece c = search needs
@@ -56,91 +93,104 @@ add-end c =
     let some : 0 < length (now (a .trace)) - l .loop .consumed = omega (arith, c .before .before .loop-test .taken) in
     omega (arith, c .next-piece .ensures, piece-bounds (a .size) (length (now (a .trace)) - l .loop .consumed) some .1, l .loop .inv .4)
 
-sub-feed : tie.Need-sub-feed Inv-loop μ-loop
-sub-feed c = search needs
+sub-feed-in-place : tie.Need-sub-feed-in-place Inv-loop μ-loop
+sub-feed-in-place c = search needs
 
-part-feed-start : tie.Need-part-feed-start Inv-loop μ-loop
-part-feed-start c =
-    search needs
+part-phases-start : tie.Need-part-phases-start Inv-loop μ-loop
+part-phases-start c = search needs
 
-part-feed-end : tie.Need-part-feed-end Inv-loop μ-loop
-part-feed-end c =
-    let l = c .before .before .before .before .before in
+part-phases-end : tie.Need-part-phases-end Inv-loop μ-loop
+part-phases-end c = let l = c .before .before .before in omega (arith, entry l .pre, l .loop .inv .6)
+
+sub-feed-in-place-2 : tie.Need-sub-feed-in-place-2 Inv-loop μ-loop
+sub-feed-in-place-2 c = search needs
+
+part-feed-in-place-start : tie.Need-part-feed-in-place-start Inv-loop μ-loop
+part-feed-in-place-start c = search needs
+
+part-feed-in-place-end : tie.Need-part-feed-in-place-end Inv-loop μ-loop
+part-feed-in-place-end c =
+    let l = c .before .before .before .before .before .before in
     let a = entry l .args in
-    let some : 0 < length (now (a .trace)) - l .loop .consumed = omega (arith, c .before .before .before .before .loop-test .taken) in
-    omega (arith, c .before .before .next-piece .ensures, piece-bounds (a .size) (length (now (a .trace)) - l .loop .consumed) some .1)
+    let some : 0 < length (now (a .trace)) - l .loop .consumed = omega (arith, c .before .before .before .before .before .loop-test .taken) in
+    omega (arith, c .before .before .before .next-piece .ensures, piece-bounds (a .size) (length (now (a .trace)) - l .loop .consumed) some .1)
 
-sub-feed-2 : tie.Need-sub-feed-2 Inv-loop μ-loop
-sub-feed-2 c = search needs
+sub-feed-in-place-3 : tie.Need-sub-feed-in-place-3 Inv-loop μ-loop
+sub-feed-in-place-3 c = search needs
 
-part-feed-start-2 : tie.Need-part-feed-start-2 Inv-loop μ-loop
-part-feed-start-2 c = search needs
+part-feed-in-place-start-2 : tie.Need-part-feed-in-place-start-2 Inv-loop μ-loop
+part-feed-in-place-start-2 c = search needs
 
-part-feed-end-2 : tie.Need-part-feed-end-2 Inv-loop μ-loop
-part-feed-end-2 c = search needs
+part-feed-in-place-end-2 : tie.Need-part-feed-in-place-end-2 Inv-loop μ-loop
+part-feed-in-place-end-2 c = search needs
 
-feed-requires : tie.Need-feed-requires Inv-loop μ-loop
-feed-requires c κs = search needs
+feed-in-place-requires : tie.Need-feed-in-place-requires Inv-loop μ-loop
+feed-in-place-requires c κs = search needs
 
 add-consumed : tie.Need-add-consumed Inv-loop μ-loop
 add-consumed c =
-    let f = c .before .before .before .before .before .before .before .before .before in
+    let g = c .before .before .before .before .before .before .before .before in
+    let f = g .before in
     let l = head f in
     let a = entry l .args in
-    let p = f .before .before .before .before .before in
     let t =
     turn (a .setup) (now (a .defaults)) (a .size) (now (a .trace)) (whole l) (l .loop .number) (l .loop .consumed) (l .loop .written)
-    (held (l .loop .port) (lentOf (a .setup .slots) (l .loop .statuses)) (l .loop .live) (l .loop .cells)) (l .loop .answers)
-    (l .loop .inv .0) (p .before .if1 .taken) (p .before .before .loop-test .taken) (p .next-piece .result) _ (p .next-piece .ensures) refl _ (f .feed .ensures)
+    (held (l .loop .port) (lentOf (a .setup .slots) (statusesIn (l .loop .phases))) (l .loop .live) (l .loop .cells)) (l .loop .answers)
+    (l .loop .inv .0) (f .before .before .before .before .before .before .before .if1 .taken) (f .before .before .before .before .before .before .before .before .loop-test .taken) (f .before .before .before .before .before .before .next-piece .result) _ (f .before .before .before .before .before .before .next-piece .ensures) refl _ (called g)
     in
     omega (arith, t .consumed, l .loop .inv .4)
 
 add-written : tie.Need-add-written Inv-loop μ-loop
 add-written c =
-    let f = c .before .before .before .before .before .before .before .before .before .before in
+    let g = c .before .before .before .before .before .before .before .before .before in
+    let f = g .before in
     let l = head f in
     let a = entry l .args in
-    let p = f .before .before .before .before .before in
     let t =
     turn (a .setup) (now (a .defaults)) (a .size) (now (a .trace)) (whole l) (l .loop .number) (l .loop .consumed) (l .loop .written)
-    (held (l .loop .port) (lentOf (a .setup .slots) (l .loop .statuses)) (l .loop .live) (l .loop .cells)) (l .loop .answers)
-    (l .loop .inv .0) (p .before .if1 .taken) (p .before .before .loop-test .taken) (p .next-piece .result) _ (p .next-piece .ensures) refl _ (f .feed .ensures)
+    (held (l .loop .port) (lentOf (a .setup .slots) (statusesIn (l .loop .phases))) (l .loop .live) (l .loop .cells)) (l .loop .answers)
+    (l .loop .inv .0) (f .before .before .before .before .before .before .before .if1 .taken) (f .before .before .before .before .before .before .before .before .loop-test .taken) (f .before .before .before .before .before .before .next-piece .result) _ (f .before .before .before .before .before .before .next-piece .ensures) refl _ (called g)
     in
     omega (arith, t .written, l .loop .inv .3, l .loop .inv .5)
 
 loop-less : tie.Need-loop-less Inv-loop μ-loop
 loop-less c =
-    let f = c .before .before .before .before .before .before .before .before .before .before in
+    let g = c .before .before .before .before .before .before .before .before .before in
+    let f = g .before in
     let l = head f in
     let a = entry l .args in
-    let p = f .before .before .before .before .before in
     let t =
     turn (a .setup) (now (a .defaults)) (a .size) (now (a .trace)) (whole l) (l .loop .number) (l .loop .consumed) (l .loop .written)
-    (held (l .loop .port) (lentOf (a .setup .slots) (l .loop .statuses)) (l .loop .live) (l .loop .cells)) (l .loop .answers)
-    (l .loop .inv .0) (p .before .if1 .taken) (p .before .before .loop-test .taken) (p .next-piece .result) _ (p .next-piece .ensures) refl _ (f .feed .ensures)
+    (held (l .loop .port) (lentOf (a .setup .slots) (statusesIn (l .loop .phases))) (l .loop .live) (l .loop .cells)) (l .loop .answers)
+    (l .loop .inv .0) (f .before .before .before .before .before .before .before .if1 .taken) (f .before .before .before .before .before .before .before .before .loop-test .taken) (f .before .before .before .before .before .before .next-piece .result) _ (f .before .before .before .before .before .before .next-piece .ensures) refl _ (called g)
     in
-    less (l .loop .number) (f .feed .result .number) (l .loop .consumed) (l .loop .consumed + f .feed .result .consumed) (length (now (a .trace))) (p .before .if1 .taken) (p .before .before .loop-test .taken) (λ q. omega (arith, t .consumes q))
+    less (l .loop .number) (f .feed-in-place .result .number) (l .loop .consumed) (l .loop .consumed + f .feed-in-place .result .consumed) (length (now (a .trace))) (f .before .before .before .before .before .before .before .if1 .taken) (f .before .before .before .before .before .before .before .before .loop-test .taken) (λ q. omega (arith, t .consumes q))
 
 loop-again : tie.Need-loop-again Inv-loop μ-loop
-loop-again c = (
-  (
-      let f = c .before .before .before .before .before .before .before .before .before .before in
-      let l = head f in
-      let a = entry l .args in
-      let p = f .before .before .before .before .before in
-      let t =
-      turn (a .setup) (now (a .defaults)) (a .size) (now (a .trace)) (whole l) (l .loop .number) (l .loop .consumed) (l .loop .written)
-      (held (l .loop .port) (lentOf (a .setup .slots) (l .loop .statuses)) (l .loop .live) (l .loop .cells)) (l .loop .answers)
-      (l .loop .inv .0) (p .before .if1 .taken) (p .before .before .loop-test .taken) (p .next-piece .result) _ (p .next-piece .ensures) refl _ (f .feed .ensures)
-      in
-      t .next
-      ),
-  omega (arith, c .before .before .before .before .before .before .before .before .before .live .given, head (c .before .before .before .before .before .before .before .before .before .before) .loop .inv .1),
-  omega (arith, c .before .before .before .before .before .before .before .cells .given, head (c .before .before .before .before .before .before .before .before .before .before) .loop .inv .2),
-  omega (arith, c .before .before .before .before .before .answers .given, head (c .before .before .before .before .before .before .before .before .before .before) .loop .inv .3),
-  head (c .before .before .before .before .before .before .before .before .before .before) .loop .inv .4,
-  head (c .before .before .before .before .before .before .before .before .before .before) .loop .inv .5,
-)
+loop-again c =
+    let g = c .before .before .before .before .before .before .before .before .before in
+    let f = g .before in
+    let l = head f in
+    let a = entry l .args in
+    let t =
+    turn (a .setup) (now (a .defaults)) (a .size) (now (a .trace)) (whole l) (l .loop .number) (l .loop .consumed) (l .loop .written)
+    (held (l .loop .port) (lentOf (a .setup .slots) (statusesIn (l .loop .phases))) (l .loop .live) (l .loop .cells)) (l .loop .answers)
+    (l .loop .inv .0) (f .before .before .before .before .before .before .before .if1 .taken) (f .before .before .before .before .before .before .before .before .loop-test .taken) (f .before .before .before .before .before .before .next-piece .result) _ (f .before .before .before .before .before .before .next-piece .ensures) refl _ (called g)
+    in
+    let ys = f .feed-in-place .last .1 .1 .0 in
+    let rest = drop (3 * a .setup .slots - 0) (l .loop .phases) in
+    let long : length (ys ++ rest) ≡ 96 = omega (arith, length-append ys rest, length-drop (3 * a .setup .slots - 0) (l .loop .phases), g .phases2 .given, g .before .before .before .before .before .before .phases .given .2, l .loop .inv .6, entry l .pre) in (
+      t .next,
+      omega (arith, c .before .before .before .before .before .before .before .before .live .given, l .loop .inv .1),
+      omega (arith, c .before .before .before .before .before .before .cells .given, l .loop .inv .2),
+      omega (arith, c .before .before .before .before .answers .given, l .loop .inv .3),
+      l .loop .inv .4,
+      l .loop .inv .5,
+      long,
+    )
+
+in-statuses-requires : tie.Need-in-statuses-requires Inv-loop μ-loop
+in-statuses-requires c κs = search needs
 
 all-fed-requires : tie.Need-all-fed-requires Inv-loop μ-loop
 all-fed-requires c κs = search needs
@@ -156,12 +206,13 @@ same-length-3 c = search needs
 
 returns : tie.Need-returns Inv-loop μ-loop
 returns c =
-    let l = c .before .before in
+    let l = c .before .before .before in
     let a = entry l .args in
-    rw (c .all-fed .ensures)
+    rw (c .all-fed .ensures, c .before .in-statuses .ensures)
     (ends (a .setup) (now (a .defaults)) (a .size) (now (a .trace)) (whole l) (l .loop .number) (l .loop .consumed) (l .loop .written)
-    (held (l .loop .port) (lentOf (a .setup .slots) (l .loop .statuses)) (l .loop .live) (l .loop .cells)) (l .loop .answers) (l .loop .inv .0)
-    (⊎-elim (λ w. λ q. absurd (eqb-false (l .loop .number) 0 (w .1 .left) q)) (λ w. λ q. w .left) (c .before .loop-test .came)))
+    (held (l .loop .port) (lentOf (a .setup .slots) (statusesIn (l .loop .phases))) (l .loop .live) (l .loop .cells)) (l .loop .answers) (l .loop .inv .0)
+    (⊎-elim (λ w. λ q. absurd (eqb-false (l .loop .number) 0 (w .1 .left) q)) (λ w. λ q. w .left) (c .before .before .loop-test .came)))
+    ∙ ap (λ (s : List Status). inPieces (a .setup) (now (a .defaults)) (a .size) 0 (held (a .start) (lentOf (a .setup .slots) s) (now (a .live)) (now (a .cells))) (now (a .trace)) (now (a .answers))) (c .before .before .before .before .before .in-numbers .ensures)
 
 pub feed-pieces-spec : {M : Type 1} → statement M
 feed-pieces-spec =
@@ -169,21 +220,27 @@ feed-pieces-spec =
     (tie.spec
     Inv-loop
     μ-loop
+    in-numbers-requires
+    mul-places
     loop-holds
     sub-next-piece
     next-piece-requires
     add-end
-    sub-feed
-    part-feed-start
-    part-feed-end
-    sub-feed-2
-    part-feed-start-2
-    part-feed-end-2
-    feed-requires
+    sub-feed-in-place
+    part-phases-start
+    part-phases-end
+    sub-feed-in-place-2
+    part-feed-in-place-start
+    part-feed-in-place-end
+    sub-feed-in-place-3
+    part-feed-in-place-start-2
+    part-feed-in-place-end-2
+    feed-in-place-requires
     add-consumed
     add-written
     loop-less
     loop-again
+    in-statuses-requires
     all-fed-requires
     same-length
     same-length-2

@@ -1,21 +1,18 @@
--- `feed::feed` meets its contract.
+-- `feed::feed` meets its contract: the lent statuses as numbers, which feed changes in place.
 -- Assumes nothing.
-use Prim.Native.Nat.{_-_}
+use Prim.Native.Nat.{_-_, _*_}
 use native.Mathlib.Omega.{arith}
-use mathlib.Core.Path.{_≡_, sym, ap, _∙_}
-use mathlib.Core.List.{List, _++_}
-use lib.ListN.{length, replicate}
+use mathlib.Core.Path.{_≡_, ap, _∙_}
+use mathlib.Core.List.{List}
+use lib.ListN.{length}
 use denote.Ref.{now}
 use borrow.Author.Needs.{needs}
-use Rattle.trace.specs.Lent.{refusalOr31}
 use Rattle.trace.proofs.Refusing.{feeds-no}
 use Rattle.readiness.specs.declared.Status.{Status}
-use Rattle.readiness.specs.Status.{ready}
 use Rattle.feed.specs.Held.{Held, held, lentOf}
-use Rattle.feed.specs.Feeding.{bench, feeds}
-use Rattle.feed.proofs.Lent.{length-lent}
-use Rattle.feed.proofs.Accepting.{Accepted, accepted}
-use Rattle.feed.proofs.Running.{filled-pads}
+use Rattle.feed.specs.Feeding.{bench, feeds, left}
+use Rattle.feed.proofs.Lent.{length-lent, in-place-lent}
+use Rattle.feed.proofs.Accepting.{too-many, stops-set-up}
 use Rattle.feed.proofs.feed.Statement.{statement}
 use Rattle.feed.proofs.feed.Tie as tie
 
@@ -23,52 +20,37 @@ use Rattle.feed.proofs.feed.Tie as tie
 abbrev lent : tie.Start → Held
 lent c = held (c .args .port) (lentOf (c .args .lent) (c .args .statuses)) (now (c .args .live)) (now (c .args .cells))
 
-abbrev entry : tie.After-refusal → tie.Start
-entry c = c .before .before .before .before .before .before .before .before
+returns : tie.Need-returns
+returns c =
+    let s = c .before .before .before .before .before .before in
+    let k = s .args .setup in
+    let d = now (s .args .defaults) in
+    feeds-no (bench k d) (lent s) (now (s .args .input)) (now (s .args .answers)) 1
+    (stops-set-up k d (lent s) 1 (too-many k d (lent s) (omega (arith, length-lent (s .args .lent) (s .args .statuses), c .if1 .taken))) (λ z. omega arith)) (λ z. omega arith)
 
--- the number that was found
-number-is : (c : tie.After-refusal) → c .refusal .result ≡ refusalOr31 (bench (entry c .args .setup) (now (entry c .args .defaults))) (lent (entry c))
-number-is c = c .refusal .ensures (entry c .args .statuses) (search needs) (c .before .before .padded .ensures) (now (entry c .args .live)) (search needs)
+in-numbers-requires : tie.Need-in-numbers-requires
+in-numbers-requires c κs = search needs
 
-relies : (c : tie.Else1) → Accepted (entry (c .before) .args .setup) (now (entry (c .before) .args .defaults)) (lent (entry (c .before)))
-relies c = accepted _ _ (lent (entry (c .before))) (sym (number-is (c .before)) ∙ c .if1 .left) (search needs) (search needs)
+mul-end : tie.Need-mul-end
+mul-end c = omega arith
 
--- the statuses, padded: the lent ones are as they were
-abbrev filled : tie.Else1 → List Status
-filled c = c .before .before .before .padded .result
+sub-feed-in-place : tie.Need-sub-feed-in-place
+sub-feed-in-place c = search needs
 
-pads : (c : tie.Else1) → let a = entry (c .before) .args in
-    (lentOf (a .lent) (filled c) ≡ lentOf (a .lent) (a .statuses)) × (filled c ≡ lentOf (a .lent) (filled c) ++ replicate (32 - a .lent) ready)
-pads c =
-    let a = entry (c .before) .args in
-    let f = relies c .fits in
-    let n : length (a .statuses) ≡ 32 = search needs in
-    filled-pads (a .lent) (a .statuses) (filled c) (omega (arith, length-lent (a .lent) (a .statuses), f .perSlot, f .most)) n (c .before .before .before .padded .ensures)
+part-phases-start : tie.Need-part-phases-start
+part-phases-start c = search needs
 
-padded-requires : tie.Need-padded-requires
-padded-requires c κs = search needs
+part-phases-end : tie.Need-part-phases-end
+part-phases-end c = omega arith
 
-refusal-requires : tie.Need-refusal-requires
-refusal-requires c κs = search needs
+feed-in-place-requires : tie.Need-feed-in-place-requires
+feed-in-place-requires c κs = search needs
+
+in-statuses-requires : tie.Need-in-statuses-requires
+in-statuses-requires c κs = search needs
 
 same-length : tie.Need-same-length
 same-length c = search needs
-
-returns : tie.Need-returns
-returns c =
-    let s = entry (c .before) in
-    feeds-no (bench (s .args .setup) (now (s .args .defaults))) (lent s) (now (s .args .input)) (now (s .args .answers)) (c .before .refusal .result) (number-is (c .before)) (c .if1 .taken)
-
-run-trace-requires : tie.Need-run-trace-requires
-run-trace-requires c κs =
-    let e = c .before .before .before in
-    let r = e .before in
-    let a = entry r .args in (
-      pads e .1,
-      ap (λ (l : List Status). refusalOr31 (bench (a .setup) (now (a .defaults))) (held (a .port) l (now (a .live)) (now (a .cells)))) (pads e .0)
-          ∙ sym (number-is r)
-          ∙ e .if1 .left,
-    )
 
 same-length-2 : tie.Need-same-length-2
 same-length-2 c = search needs
@@ -76,27 +58,31 @@ same-length-2 c = search needs
 same-length-3 : tie.Need-same-length-3
 same-length-3 c = search needs
 
-same-length-4 : tie.Need-same-length-4
-same-length-4 c = search needs
-
 returns-2 : tie.Need-returns-2
 returns-2 c =
-    let x = c .before .before .before .before .before .before in
-    let e = x .before .before .before .before in
-    let a = entry (e .before) .args in
-    x .run-trace .ensures
-    ∙ ap (λ (l : List Status). feeds (a .setup) (now (a .defaults)) (held (a .port) l (now (a .live)) (now (a .cells))) (now (a .input)) (now (a .answers))) (pads e .0)
+    let a = c .before .before .before .before .before .before .before .before .before .before .before .before .before .before .before .before .before .before .before .before .before .args in
+    let x = c .before .before .before .before .before .before .before .before .before .feed-in-place in
+    let numbers = c .before .before .before .before .before .before .before .before .before .before .before .before .before .before .in-numbers in
+    let n : length (numbers .result) ≡ 96 = search needs in
+    ap (λ (l : List Status). left (a .lent) (record { number = x .result .number; consumed = x .result .consumed; written = x .result .written; port = x .result .port; statuses = l }) (x .last .1 .1 .1 .0) (x .last .1 .1 .1 .1 .1 .0) (x .last .1 .1 .1 .1 .1 .1 .1 .0))
+    (c .in-statuses .ensures)
+    ∙ in-place-lent (a .setup) (now (a .defaults)) (a .lent) (3 * a .lent - 0) (numbers .result) (a .port) (now (a .live)) (now (a .cells)) (now (a .input)) (now (a .answers)) (x .result) (x .last .1 .1 .0) _ _ _ _
+    (omega arith) (omega (arith, n, c .before .before .before .before .before .before .before .before .before .before .before .before .before .before .before .if1 .left)) (omega (arith, c .before .before .before .before .before .before .before .before .phases2 .given, c .before .before .before .before .before .before .before .before .before .before .before .before .before .phases .given .2)) (x .ensures)
+    ∙ ap (λ (l : List Status). feeds (a .setup) (now (a .defaults)) (held (a .port) (lentOf (a .lent) l) (now (a .live)) (now (a .cells))) (now (a .input)) (now (a .answers))) (numbers .ensures)
 
 pub feed-spec : {M : Type 1} → statement M
 feed-spec =
     tie.close
     (tie.spec
-    padded-requires
-    refusal-requires
-    same-length
     returns
-    run-trace-requires
+    in-numbers-requires
+    mul-end
+    sub-feed-in-place
+    part-phases-start
+    part-phases-end
+    feed-in-place-requires
+    in-statuses-requires
+    same-length
     same-length-2
     same-length-3
-    same-length-4
     returns-2)

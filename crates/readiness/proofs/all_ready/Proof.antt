@@ -3,28 +3,26 @@
 use Prim.Native.Nat.{_≤_, _-_}
 use native.Mathlib.Omega.{arith}
 use mathlib.Core.Bool.{true, false}
-use mathlib.Core.Path.{_≡_, sym, _∙_}
+use mathlib.Core.Path.{_≡_, refl, sym, ap, _∙_}
 use lib.ListN.{drop}
-use Rattle.readiness.specs.Status.{allReady}
+use Rattle.readiness.specs.Status.{isReady, allReady}
+use Rattle.readiness.specs.Phases.{statusesIn}
 use Rattle.readiness.proofs.Statuses.{ready-cons, ready-end}
 use borrow.Author.Needs.{needs}
 use Rattle.readiness.proofs.all_ready.Statement.{statement}
 use Rattle.readiness.proofs.all_ready.Tie as tie
 
 abbrev Inv-loop : tie.InvT-loop
-Inv-loop statuses i₀ i = (i ≤ 32) × (allReady (drop i statuses) ≡ allReady statuses)
+Inv-loop slots phases i₀ i = (i ≤ slots) × (allReady (drop i (statusesIn phases)) ≡ allReady (statusesIn phases))
 
 abbrev μ-loop : tie.MeasureT-loop
-μ-loop statuses i₀ i = 32 - i
+μ-loop slots phases i₀ i = slots - i
 
 loop-holds : tie.Need-loop-holds Inv-loop μ-loop
-loop-holds c = search needs
+loop-holds c = (omega arith, refl)
 
-mul-s : tie.Need-mul-s Inv-loop μ-loop
-mul-s c = search needs
-
-array-copy-out-s : tie.Need-array-copy-out-s Inv-loop μ-loop
-array-copy-out-s c = search needs
+status-at-requires : tie.Need-status-at-requires Inv-loop μ-loop
+status-at-requires c κs = omega arith
 
 is-ready-requires : tie.Need-is-ready-requires Inv-loop μ-loop
 is-ready-requires c κs = search needs
@@ -38,17 +36,17 @@ loop-less c = omega arith
 loop-again : tie.Need-loop-again Inv-loop μ-loop
 loop-again c =
     let at = c .before .before .before .before in
-    (omega arith, sym (ready-cons (at .before .args .t1) _ (at .loop .i) true (omega arith) (sym (c .before .is-ready .ensures) ∙ c .if1 .taken)) ∙ at .loop .inv .1)
+    (omega arith, sym (ready-cons (statusesIn (at .before .before .args .phases .now)) _ (at .loop .i) true (omega arith) (ap isReady (sym (c .before .before .status-at .ensures)) ∙ sym (c .before .is-ready .ensures) ∙ c .if1 .taken)) ∙ at .loop .inv .1)
 
 returns : tie.Need-returns Inv-loop μ-loop
 returns c =
     let at = c .before .before .before .before in
-    sym (ready-cons (at .before .args .t1) _ (at .loop .i) false (omega arith) (sym (c .before .is-ready .ensures) ∙ c .if1 .left)) ∙ at .loop .inv .1
+    sym (ready-cons (statusesIn (at .before .before .args .phases .now)) _ (at .loop .i) false (omega arith) (ap isReady (sym (c .before .before .status-at .ensures)) ∙ sym (c .before .is-ready .ensures) ∙ c .if1 .left)) ∙ at .loop .inv .1
 
 returns-2 : tie.Need-returns-2 Inv-loop μ-loop
 returns-2 c =
     let at = c .before in
-    sym (ready-end (at .before .args .t1) (at .loop .i) (omega arith)) ∙ at .loop .inv .1
+    sym (ready-end (statusesIn (at .before .before .args .phases .now)) (at .loop .i) (omega arith)) ∙ at .loop .inv .1
 
 pub all-ready-spec : {M : Type 1} → statement M
 all-ready-spec =
@@ -57,8 +55,7 @@ all-ready-spec =
     Inv-loop
     μ-loop
     loop-holds
-    mul-s
-    array-copy-out-s
+    status-at-requires
     is-ready-requires
     add-i
     loop-less

@@ -4,14 +4,14 @@ use borrow.Author.Needs.{needs}
 use Rattle.readiness.proofs.drs_is_due.Statement.{statement}
 use Rattle.readiness.proofs.drs_is_due.Tie as tie
 
-ready-below-requires : tie.Need-ready-below-requires
-ready-below-requires c κs = search needs
+all-ready-requires : tie.Need-all-ready-requires
+all-ready-requires c κs = search needs
 
 returns : tie.Need-returns
-returns c = simp (c .before .if1 .taken) (c .ready-below .ensures)
+returns c = simp (c .before .if1 .taken) (c .all-ready .ensures)
 
 returns-2 : tie.Need-returns-2
 returns-2 c = search needs
 
 pub drs-is-due-spec : {M : Type 1} → statement M
-drs-is-due-spec = tie.close (tie.spec ready-below-requires returns returns-2)
+drs-is-due-spec = tie.close (tie.spec all-ready-requires returns returns-2)

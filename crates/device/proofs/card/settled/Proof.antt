@@ -23,9 +23,14 @@ settle-requires c κs = search needs
 same-length : tie.Need-same-length
 same-length c = search needs
 
+same-length-2 : tie.Need-same-length-2
+same-length-2 c = search needs
+
 returns : tie.Need-returns
 unfolding answered
-returns c = λ before live. ap (told live) (rw (c .before .before .before .before .before .before .before .before .root-port .ensures) at (c .before .before .before .before .before .before .settle .ensures))
+returns c =
+    let settle = c .before .before .before .before .before .before in
+    λ before live. ap (told live) (rw (settle .before .before .root-port .ensures) at (settle .settle .ensures))
 
 pub settled-spec : {M : Type 1} → statement M
-settled-spec = tie.close (tie.spec root-port-requires settle-requires same-length returns)
+settled-spec = tie.close (tie.spec root-port-requires settle-requires same-length same-length-2 returns)

@@ -16,25 +16,25 @@ nanos-number-requires : tie.Need-nanos-number-requires
 nanos-number-requires c κs = search needs
 
 -- the clock is no further than its end
-early : (c : tie.Else1) → leb (c .before .before .before .before .before .args .dev .clock .0) clockEnd ≡ true
+early : (c : tie.Else1) → leb (c .before .before .before .before .before .before .args .dev .clock .0) clockEnd ≡ true
 early c =
-    let h : c .before .before .before .before .before .args .dev .clock .0 ≤ clockEnd = omega (arith, c .before .nanos-number .ensures) in
+    let h : c .before .before .before .before .before .before .args .dev .clock .0 ≤ clockEnd = omega (arith, c .before .nanos-number .ensures) in
     le-leb _ _ h
 
 returns : tie.Need-returns
 unfolding sound
 returns c =
-    λ live.
-    let h : clockEnd < c .before .before .before .before .before .args .dev .clock .0 = omega (arith, c .before .nanos-number .ensures) in
+    λ setup live e.
+    let h : clockEnd < c .before .before .before .before .before .before .args .dev .clock .0 = omega (arith, c .before .nanos-number .ensures) in
     simp (lt-leb _ _ h)
 
 returns-2 : tie.Need-returns-2
 unfolding sound
-returns-2 c = λ live. simp (early (c .before), le-ltb _ _ (c .if2 .taken))
+returns-2 c = λ setup live e. simp (early (c .before), le-ltb _ _ (c .if2 .taken))
 
 returns-3 : tie.Need-returns-3
 unfolding sound
-returns-3 c = λ live. simp (early (c .before .before), lt-ltb _ _ (c .before .if2 .left), lt-leb _ _ (c .if3 .taken))
+returns-3 c = λ setup live e. simp (early (c .before .before), lt-ltb _ _ (c .before .if2 .left), lt-leb _ _ (c .if3 .taken))
 
 sound-cells-requires : tie.Need-sound-cells-requires
 sound-cells-requires c κs = search needs
@@ -47,7 +47,7 @@ sound-owed-requires c κs = search needs
 
 returns-4 : tie.Need-returns-4
 unfolding sound
-returns-4 c = λ live. simp (early (c .before .before .before .before .before .before), lt-ltb _ _ (c .before .before .before .before .before .if2 .left), le-leb _ _ (c .before .before .before .before .if3 .left), c .before .before .before .sound-cells .ensures, c .before .sound-statuses .ensures, c .sound-owed .ensures)
+returns-4 c = λ setup live e. simp (early (c .before .before .before .before .before .before), lt-ltb _ _ (c .before .before .before .before .before .if2 .left), le-leb _ _ (c .before .before .before .before .if3 .left), c .before .before .before .sound-cells .ensures, c .before .sound-statuses .ensures, c .sound-owed .ensures, e)
 
 pub is-sound-spec : {M : Type 1} → statement M
 is-sound-spec =

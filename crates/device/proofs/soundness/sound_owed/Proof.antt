@@ -14,7 +14,7 @@ all-ready-requires : tie.Need-all-ready-requires
 all-ready-requires c κs = search needs
 
 returns : tie.Need-returns
-returns c = let d = c .before .before .before .args .dev in ap (λ (b : Bool). d .link && not b) (c .before .all-ready .ensures) ∙ held (d .owed) _ (c .before .before .if1 .taken)
+returns c = let d = c .before .before .before .before .args .dev in ap (λ (b : Bool). d .link && not b) (c .before .all-ready .ensures) ∙ held (d .owed) _ (c .before .before .if1 .taken)
 
 returns-2 : tie.Need-returns-2
 returns-2 c = search needs

@@ -5,28 +5,24 @@ use borrow.Author.Needs.{needs}
 use mathlib.Core.Path.{_≡_, sym, ap, _∙_}
 use mathlib.Core.Bool.{Bool, true}
 use Prim.Native.Nat.{ℕ, _≤_, _-_}
-use lib.ListN.{length}
-use Rattle.readiness.specs.Status.{ready}
+use Rattle.readiness.specs.Phases.{statusesIn}
 use Rattle.records.specs.State.{statusAt}
 use Rattle.records.specs.Sound.{soundStatus}
-use Rattle.device.proofs.Every.{every, every-none, every-more, every-not, getD-any, statuses-every}
+use Rattle.device.proofs.Every.{every, every-none, every-more, every-not, statuses-every}
 use Rattle.device.proofs.soundness.sound_statuses.Statement.{statement}
 use Rattle.device.proofs.soundness.sound_statuses.Tie as tie
 
 abbrev Inv-loop : tie.InvT-loop
-Inv-loop slots dev statuses i₀ i = (i ≤ slots) × (every i (λ j. soundStatus dev (statusAt statuses j)) ≡ true)
+Inv-loop slots dev phases i₀ i = (i ≤ slots) × (every i (λ j. soundStatus dev (statusAt (statusesIn phases) j)) ≡ true)
 
 abbrev μ-loop : tie.MeasureT-loop
-μ-loop slots dev statuses i₀ i = slots - i
+μ-loop slots dev phases i₀ i = slots - i
 
 loop-holds : tie.Need-loop-holds Inv-loop μ-loop
 loop-holds c = (omega arith, every-none _)
 
-mul-status : tie.Need-mul-status Inv-loop μ-loop
-mul-status c = search needs
-
-array-copy-out-status : tie.Need-array-copy-out-status Inv-loop μ-loop
-array-copy-out-status c = omega arith
+status-at-requires : tie.Need-status-at-requires Inv-loop μ-loop
+status-at-requires c κs = omega arith
 
 sound-status-requires : tie.Need-sound-status-requires Inv-loop μ-loop
 sound-status-requires c κs = search needs
@@ -38,11 +34,8 @@ loop-less : tie.Need-loop-less Inv-loop μ-loop
 loop-less c = omega arith
 
 -- the status that the code tests is the slot's
-tested : (c : tie.After-sound-status Inv-loop μ-loop) → soundStatus (c .before .before .before .before .args .dev) (statusAt (c .before .before .before .before .args .t3) (c .before .before .before .loop .i)) ≡ c .sound-status .result
-tested c =
-    let a = c .before .before .before .before .args in
-    let n : length (a .t3) ≡ 32 = search needs in
-    ap (soundStatus (a .dev)) (getD-any (a .t3) (c .before .before .before .loop .i) ready _ (omega arith)) ∙ sym (c .sound-status .ensures)
+tested : (c : tie.After-sound-status Inv-loop μ-loop) → soundStatus (c .before .before .before .before .before .args .dev) (statusAt (statusesIn (c .before .before .before .before .before .args .phases .now)) (c .before .before .before .loop .i)) ≡ c .sound-status .result
+tested c = ap (soundStatus (c .before .before .before .before .before .args .dev)) (sym (c .before .status-at .ensures)) ∙ sym (c .sound-status .ensures)
 
 loop-again : tie.Need-loop-again Inv-loop μ-loop
 loop-again c = (omega arith, every-more _ _ (c .before .before .before .before .loop .inv .1) (tested (c .before) ∙ c .if1 .taken))
@@ -50,16 +43,18 @@ loop-again c = (omega arith, every-more _ _ (c .before .before .before .before .
 returns : tie.Need-returns Inv-loop μ-loop
 returns c =
     let l = c .before .before .before .before in
-    let a = l .before .args in
-    let p : ℕ → Bool = λ j. soundStatus (a .dev) (statusAt (a .t3) j) in
-    sym (statuses-every (a .slots) (a .dev) (a .t3) ∙ every-not (a .slots) p (l .loop .i) (omega arith) (tested (c .before) ∙ c .if1 .left))
+    let a = l .before .before .args in
+    let s = statusesIn (a .phases .now) in
+    let p : ℕ → Bool = λ j. soundStatus (a .dev) (statusAt s j) in
+    sym (statuses-every (a .slots) (a .dev) s ∙ every-not (a .slots) p (l .loop .i) (omega arith) (tested (c .before) ∙ c .if1 .left))
 
 returns-2 : tie.Need-returns-2 Inv-loop μ-loop
 returns-2 c =
-    let a = c .before .before .args in
-    let p : ℕ → Bool = λ j. soundStatus (a .dev) (statusAt (a .t3) j) in
+    let a = c .before .before .before .args in
+    let s = statusesIn (a .phases .now) in
+    let p : ℕ → Bool = λ j. soundStatus (a .dev) (statusAt s j) in
     let e : a .slots ≡ c .before .loop .i = omega arith in
-    sym (statuses-every (a .slots) (a .dev) (a .t3) ∙ ap (λ (n : ℕ). every n p) e ∙ c .before .loop .inv .1)
+    sym (statuses-every (a .slots) (a .dev) s ∙ ap (λ (n : ℕ). every n p) e ∙ c .before .loop .inv .1)
 
 pub sound-statuses-spec : {M : Type 1} → statement M
 sound-statuses-spec =
@@ -68,8 +63,7 @@ sound-statuses-spec =
     Inv-loop
     μ-loop
     loop-holds
-    mul-status
-    array-copy-out-status
+    status-at-requires
     sound-status-requires
     add-i
     loop-less

@@ -1,5 +1,6 @@
 -- `feed::choosing::clock_turn` meets its contract.
 -- Assumes nothing.
+use native.Mathlib.Omega.{arith}
 use borrow.Author.Needs.{needs}
 use mathlib.Core.Path.{refl, sym, ap, _∙_}
 use lib.Dec.{ltb}
@@ -19,10 +20,10 @@ returns : tie.Need-returns
 returns c =
     let a = c .before .before .before .args in
     let e = ap (λ (t : Nanos). ltb (t .0) (a .earliest .0)) (sym (c .before .before .sum .ensures)) ∙ sym (c .before .earlier .ensures) ∙ c .if1 .taken in
-    λ slots. (refl, ltb-true (sumOf (a .clock) (a .by) .0) (a .earliest .0) e)
+    λ slots link. (refl, ltb-true (sumOf (a .clock) (a .by) .0) (a .earliest .0) e)
 
 returns-2 : tie.Need-returns-2
-returns-2 c = search needs
+returns-2 c = λ slots link. (refl, omega arith)
 
 pub clock-turn-spec : {M : Type 1} → statement M
 clock-turn-spec =

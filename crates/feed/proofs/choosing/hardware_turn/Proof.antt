@@ -1,5 +1,6 @@
 -- `feed::choosing::hardware_turn` meets its contract.
 -- Assumes nothing.
+use native.Mathlib.Omega.{arith}
 use borrow.Author.Needs.{needs}
 use borrow.Author.Tests.{le-ltb}
 use Rattle.feed.proofs.choosing.hardware_turn.Statement.{statement}
@@ -9,7 +10,7 @@ returns : tie.Need-returns
 returns c = search needs
 
 returns-2 : tie.Need-returns-2
-returns-2 c = λ earliest clock. simp (le-ltb _ _ (c .if1 .left))
+returns-2 c = λ earliest clock link. (simp (le-ltb _ _ (c .if1 .left)), omega arith)
 
 pub hardware-turn-spec : {M : Type 1} → statement M
 hardware-turn-spec =

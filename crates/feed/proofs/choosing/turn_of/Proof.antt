@@ -1,11 +1,19 @@
 -- `feed::choosing::turn_of` meets its contract.
 -- Assumes nothing.
+use Prim.Native.Nat.{_<_}
+use native.Mathlib.Omega.{arith}
 use borrow.Author.Needs.{needs}
-use mathlib.Core.Path.{sym, subst}
+use mathlib.Core.Path.{_≡_, ap, sym, subst}
 use Rattle.records.specs.declared.Record.{Record}
+use Rattle.records.specs.Parts.{partOf}
+use Rattle.feed.specs.Gathering.{recordSize}
 use Rattle.feed.specs.Turns.{Takes}
 use Rattle.feed.proofs.choosing.turn_of.Statement.{statement}
 use Rattle.feed.proofs.choosing.turn_of.Tie as tie
+
+-- a record that has a byte
+some : {r z : Record} → r ≡ z → 0 < recordSize z → 0 < recordSize r
+some e h = subst (λ (x : Record). 0 < recordSize x) (sym e) h
 
 enum-known-record : tie.Need-enum-known-record
 enum-known-record c = search needs
@@ -24,6 +32,12 @@ enum-known-record-3 c = search needs
 
 write-turn-requires : tie.Need-write-turn-requires
 write-turn-requires c κs = search needs
+
+enum-known-record-4 : tie.Need-enum-known-record-4
+enum-known-record-4 c = search needs
+
+message-turn-requires : tie.Need-message-turn-requires
+message-turn-requires c κs = search needs
 
 enum-told : tie.Need-enum-told
 enum-told c = search needs
@@ -46,59 +60,56 @@ enum-told-6 c = search needs
 enum-told-7 : tie.Need-enum-told-7
 enum-told-7 c = search needs
 
-enum-told-8 : tie.Need-enum-told-8
-enum-told-8 c = search needs
-
-enum-known-record-4 : tie.Need-enum-known-record-4
-enum-known-record-4 c = search needs
+enum-known-record-5 : tie.Need-enum-known-record-5
+enum-known-record-5 c = search needs
 
 hardware-turn-requires : tie.Need-hardware-turn-requires
 hardware-turn-requires c κs = search needs
 
+enum-told-8 : tie.Need-enum-told-8
+enum-told-8 c = search needs
+
 enum-told-9 : tie.Need-enum-told-9
 enum-told-9 c = search needs
 
-enum-told-10 : tie.Need-enum-told-10
-enum-told-10 c = search needs
-
 returns : tie.Need-returns
-returns c = let a = c .before .before .before .before .args in subst (λ (x : Record). Takes (a .slots) (a .earliest) (a .clock) x (c .clock-turn .result)) (sym (c .before .before .«record» .given .1)) (c .clock-turn .ensures (a .slots))
+returns c = let a = c .before .before .before .before .args in subst (λ (x : Record). Takes (a .slots) (a .earliest) (a .clock) (a .link) x (c .clock-turn .result)) (sym (c .before .before .«record» .given .1)) (c .clock-turn .ensures (a .slots) (a .link))
 
 returns-2 : tie.Need-returns-2
-returns-2 c = let a = c .before .before .before .before .args in subst (λ (x : Record). Takes (a .slots) (a .earliest) (a .clock) x (c .read-turn .result)) (sym (c .before .before .record2 .given .1)) (c .read-turn .ensures (a .earliest) (a .clock))
+returns-2 c = let a = c .before .before .before .before .args in subst (λ (x : Record). Takes (a .slots) (a .earliest) (a .clock) (a .link) x (c .read-turn .result)) (sym (c .before .before .record2 .given .1)) (c .read-turn .ensures (a .earliest) (a .clock) (a .link))
 
 returns-3 : tie.Need-returns-3
-returns-3 c = let a = c .before .before .before .before .args in subst (λ (x : Record). Takes (a .slots) (a .earliest) (a .clock) x (c .write-turn .result)) (sym (c .before .before .record3 .given .1)) (c .write-turn .ensures (a .earliest) (a .clock))
+returns-3 c = let a = c .before .before .before .before .args in subst (λ (x : Record). Takes (a .slots) (a .earliest) (a .clock) (a .link) x (c .write-turn .result)) (sym (c .before .before .record3 .given .1)) (c .write-turn .ensures (a .earliest) (a .clock) (a .link))
 
 returns-4 : tie.Need-returns-4
-returns-4 c = search needs
+returns-4 c = let a = c .before .before .before .before .args in subst (λ (x : Record). Takes (a .slots) (a .earliest) (a .clock) (a .link) x (c .message-turn .result)) (sym (c .before .before .record4 .given .1)) (c .message-turn .ensures (a .slots) (a .earliest) (a .clock))
 
 returns-5 : tie.Need-returns-5
-returns-5 c = search needs
+returns-5 c = (ap (partOf (c .before .before .args .slots)) (c .enum-told .given .1), some (c .enum-told .given .1) (omega arith))
 
 returns-6 : tie.Need-returns-6
-returns-6 c = search needs
+returns-6 c = (ap (partOf (c .before .before .args .slots)) (c .enum-told2 .given .1), some (c .enum-told2 .given .1) (omega arith))
 
 returns-7 : tie.Need-returns-7
-returns-7 c = search needs
+returns-7 c = (ap (partOf (c .before .before .args .slots)) (c .enum-told3 .given .1), some (c .enum-told3 .given .1) (omega arith))
 
 returns-8 : tie.Need-returns-8
-returns-8 c = search needs
+returns-8 c = (ap (partOf (c .before .before .args .slots)) (c .enum-told4 .given .1), some (c .enum-told4 .given .1) (omega arith))
 
 returns-9 : tie.Need-returns-9
-returns-9 c = search needs
+returns-9 c = (ap (partOf (c .before .before .args .slots)) (c .enum-told5 .given .1), some (c .enum-told5 .given .1) (omega arith))
 
 returns-10 : tie.Need-returns-10
-returns-10 c = search needs
+returns-10 c = (ap (partOf (c .before .before .args .slots)) (c .enum-told6 .given .1), some (c .enum-told6 .given .1) (omega arith))
 
 returns-11 : tie.Need-returns-11
-returns-11 c = search needs
+returns-11 c = (ap (partOf (c .before .before .args .slots)) (c .enum-told7 .given .1), some (c .enum-told7 .given .1) (omega arith))
 
 returns-12 : tie.Need-returns-12
-returns-12 c = let a = c .before .before .before .before .args in subst (λ (x : Record). Takes (a .slots) (a .earliest) (a .clock) x (c .hardware-turn .result)) (sym (c .before .before .record4 .given .1)) (c .hardware-turn .ensures (a .earliest) (a .clock))
+returns-12 c = let a = c .before .before .before .before .args in subst (λ (x : Record). Takes (a .slots) (a .earliest) (a .clock) (a .link) x (c .hardware-turn .result)) (sym (c .before .before .record5 .given .1)) (c .hardware-turn .ensures (a .earliest) (a .clock) (a .link))
 
 returns-13 : tie.Need-returns-13
-returns-13 c = search needs
+returns-13 c = (ap (partOf (c .before .before .args .slots)) (c .enum-told8 .given .1), some (c .enum-told8 .given .1) (omega arith))
 
 returns-14 : tie.Need-returns-14
 returns-14 c = search needs
@@ -113,6 +124,8 @@ turn-of-spec =
     read-turn-requires
     enum-known-record-3
     write-turn-requires
+    enum-known-record-4
+    message-turn-requires
     enum-told
     enum-told-2
     enum-told-3
@@ -120,11 +133,10 @@ turn-of-spec =
     enum-told-5
     enum-told-6
     enum-told-7
-    enum-told-8
-    enum-known-record-4
+    enum-known-record-5
     hardware-turn-requires
+    enum-told-8
     enum-told-9
-    enum-told-10
     returns
     returns-2
     returns-3

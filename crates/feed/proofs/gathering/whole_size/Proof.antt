@@ -1,7 +1,7 @@
 -- `feed::gathering::whole_size` meets its contract.
 -- Assumes nothing.
 use borrow.Author.Needs.{needs}
-use mathlib.Core.Path.{_≡_, refl, ap, sym, _∙_}
+use mathlib.Core.Path.{_≡_, ap, sym, _∙_}
 use mathlib.Core.List.{List, _++_}
 use Prim.Native.Nat.{ℕ, _+_, _-_}
 use native.Mathlib.Omega.{arith}
@@ -10,8 +10,7 @@ use lib.Seq.{getD-drop}
 use denote.Ref.{now}
 use Rattle.trace.specs.Format.{sizeOf}
 use Rattle.trace.proofs.Lists.{length-joined}
-use Rattle.trace.proofs.Gathering.{gathered-none, gathered-unknown, gathered-part, gathered-full, gathered-whole}
-use Rattle.feed.proofs.Fields.{no-record}
+use Rattle.feed.proofs.Whole.{whole-none, whole-unknown, whole-part, whole-full, whole-some}
 use Rattle.feed.proofs.gathering.whole_size.Statement.{statement}
 use Rattle.feed.proofs.gathering.whole_size.Tie as tie
 
@@ -38,7 +37,7 @@ sub-there : tie.Need-sub-there
 sub-there c = search needs
 
 returns : tie.Need-returns
-returns c = let s = c .before .before .before in no-record _ _ _ (gathered-none (s .args .space) (rest s) (there s ∙ c .if1 .taken)) refl
+returns c = let s = c .before .before .before in whole-none (rest s) (s .args .space) (there s ∙ c .if1 .taken)
 
 byte-at-requires : tie.Need-byte-at-requires
 byte-at-requires c κs = search needs
@@ -47,24 +46,16 @@ size-of-requires : tie.Need-size-of-requires
 size-of-requires c κs = search needs
 
 returns-2 : tie.Need-returns-2
-returns-2 c = let s = c .before .before .before .before .before .before in no-record _ _ _ (gathered-unknown (s .args .space) (rest s) (omega (arith, there s)) (size-is (c .before) ∙ c .if2 .taken)) refl
+returns-2 c = let s = c .before .before .before .before .before .before in whole-unknown (rest s) (s .args .space) (omega (arith, there s)) (size-is (c .before) ∙ c .if2 .taken)
 
 returns-3 : tie.Need-returns-3
-returns-3 c = let s = c .before .before .before .before .before .before .before in no-record _ _ _ (gathered-part (s .args .space) (rest s) _ (there s) (omega arith) (omega (arith, size-is (c .before .before), c .if3))) refl
+returns-3 c = let s = c .before .before .before .before .before .before .before in whole-part (rest s) (s .args .space) (omega (arith, there s)) (omega (arith, there s, size-is (c .before .before), c .if3))
 
 returns-4 : tie.Need-returns-4
-returns-4 c = let s = c .before .before .before .before .before .before .before .before in no-record _ _ _ (gathered-full (s .args .space) (rest s) _ (size-is (c .before .before .before)) (omega (arith, c .before .before .if2)) (omega (arith, there s, c .before .if3)) (c .if4 .taken)) refl
+returns-4 c = let s = c .before .before .before .before .before .before .before .before in whole-full (rest s) (s .args .space) (c .if4 .taken)
 
 returns-5 : tie.Need-returns-5
-returns-5 c =
-    let s = c .before .before .before .before .before .before .before .before in
-    let z = size-is (c .before .before .before) in
-    let h = c .before .before .if2 in
-    record {
-      none = λ e. absurd (omega (arith, h, e));
-      some = λ p. sym (gathered-whole (s .args .space) (rest s) _ z (omega (arith, h)) (omega (arith, there s, c .before .if3)) (c .if4 .left));
-      sized = λ p. z;
-    }
+returns-5 c = let s = c .before .before .before .before .before .before .before .before in whole-some (rest s) (s .args .space) _ (size-is (c .before .before .before)) (omega (arith, c .before .before .if2)) (omega (arith, there s, c .before .if3)) (c .if4 .left)
 
 pub whole-size-spec : {M : Type 1} → statement M
 whole-size-spec =

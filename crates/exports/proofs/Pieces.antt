@@ -17,7 +17,7 @@ use Rattle.feed.specs.Held.{Held}
 use Rattle.feed.specs.SettingUp.{Prepared, setsUp}
 use Rattle.feed.specs.Feeding.{feeds}
 use Rattle.exports.specs.Pieces.{pieceOf, after, callsIn, inPieces, runsOn}
-use Rattle.exports.proofs.Counts.{Counts, counts}
+use Rattle.feed.proofs.Counts.{Counts, counts}
 
 -- ---- A piece
 -- it has at least one byte, and no more than are left

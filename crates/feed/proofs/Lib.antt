@@ -5,8 +5,11 @@ pub mod SettingUp
 pub mod Running
 pub mod Accepting
 pub mod Looping
+pub mod Counts
+pub mod Carried
 pub mod Fields
 pub mod Whole
+pub mod Ends
 pub mod Direct
 pub mod Numbers
 pub mod Prepared

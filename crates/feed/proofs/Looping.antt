@@ -11,7 +11,7 @@ use lib.Dec.{eqb}
 use Rattle.trace.specs.Format.{Bytes, pad, longest, begun, next}
 use Rattle.trace.specs.Feed.{Gathered as GatheredBytes, gathered}
 use Rattle.trace.specs.Lent.{Left, refusalOr31}
-use Rattle.trace.proofs.Loop.{Got, got-count, Ends, Found, by-gather, Inv, begins, turns, reach, finish}
+use Rattle.trace.proofs.Loop.{Got, got-count, Ends, Found, by-gather, Inv, begins, turns, finish}
 use Rattle.trace.proofs.Tests.{split}
 use Rattle.readiness.specs.declared.Status.{Status}
 use Rattle.readiness.specs.declared.Setup.{Setup}
@@ -143,10 +143,6 @@ module _ {k : Setup} {defaults : List ℕ} {carried : List ℕ} {len : ℕ} {inp
 
   -- THE CALL'S END
   module _ (g : GatheredBytes) (z : Ends (device k defaults) present (length room - w) rest (g .bytes) (g .number) (g .count)) where
-    pub end-reach : len ≤ at + g .count
-    end-reach =
-        omega (arith, reach (bench k defaults) (Good k defaults s₀) (good-keeps k defaults s₀) s₀ (take len carried) input room answers present at w (v .inv) (g .bytes) (g .number) (g .count) z, length-take-le len carried (omega (arith, v .short, v .long)))
-
     pub ended : (h : Held) → stateOf h ≡ s₀ → carriedOf (h .port) ≡ take len carried → refusalOr31 (bench k defaults) h ≡ 0
         → _≡_ {A = Left Held}
         (record {
@@ -168,3 +164,26 @@ module _ {k : Setup} {defaults : List ℕ} {carried : List ℕ} {len : ℕ} {inp
         })
         (finish (bench k defaults) (Good k defaults s₀) (good-keeps k defaults s₀) s₀ (take len carried) input room answers present at w (v .inv) (g .bytes) (g .number) (g .count) z
         len (length-take-le len carried (omega (arith, v .short, v .long))) h es ec e)
+
+    -- with nothing carried at the start
+    pub ended-all : len ≡ 0 → (h : Held) → stateOf h ≡ s₀ → carriedOf (h .port) ≡ take len carried → refusalOr31 (bench k defaults) h ≡ 0
+        → _≡_ {A = Left Held}
+        (record {
+          number = g .number;
+          consumed = at + g .count;
+          written = w;
+          held = held (record { dev = dev; carried = pad 16 (take (g .count) (g .bytes)); «carried_len» = g .count; broken = eqb (g .number) 31 }) statuses live cells;
+          answers = answers;
+        })
+        (feeds k defaults h input room)
+    ended-all q h es ec e =
+        let c : at + g .count ≡ at + g .count - len = omega arith in
+        _∙_ {A = Left Held}
+        (λ i. record {
+          number = g .number;
+          consumed = c i;
+          written = w;
+          held = held (record { dev = dev; carried = pad 16 (take (g .count) (g .bytes)); «carried_len» = g .count; broken = eqb (g .number) 31 }) statuses live cells;
+          answers = answers;
+        })
+        (ended h es ec e)

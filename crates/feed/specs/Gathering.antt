@@ -1,16 +1,20 @@
 -- What the code gathers from a call's trace.
 -- Assumes nothing.
-use Prim.Native.Nat.{ℕ, _<_}
+use Prim.Native.Nat.{ℕ, _-_, _<_}
 use mathlib.Core.Path.{_≡_}
 use mathlib.Core.Bool.{true, false}
 use mathlib.Core.List.{List}
 use lib.ListN.{getD, take}
+use lib.Dec.{eqb}
 use Rattle.trace.specs.Format.{sizeOf, pad, longest, next}
 use Rattle.trace.specs.Feed.{Gathered as GatheredBytes, gathered}
 use Rattle.records.specs.declared.Record.{Record}
 use Rattle.records.specs.declared.Record.the-variants.{Advance, Read, Write, Message, LinkUp, LinkDown, ColdReset, ReadQueue, RemoveOldest, ClearBits, Control, HardwareSet, ReadBits, NoKind}
 use Rattle.records.specs.Decode.{decode}
 use Rattle.feed.specs.declared.Gathered.{Gathered}
+use Rattle.feed.specs.declared.Ending.{Ending}
+use Rattle.feed.specs.declared.Port.{Port}
+use Rattle.feed.specs.declared.FedPort.{FedPort}
 
 -- a record to run, or the call's end
 abbrev pub gatheredBytes : Gathered → GatheredBytes
@@ -43,3 +47,19 @@ recordSize NoKind = 0
 pub record NextRecord (rest : List ℕ) (room : ℕ) (r : Record) : Type 0 where
   pub size : WholeSize rest room (recordSize r)
   pub decoded : 0 < recordSize r → r ≡ decode (pad longest (take (recordSize r) rest))
+
+-- the end of a call at `rest`: its number, and how many of the bytes are carried
+pub record EndsAt (rest : List ℕ) (room : ℕ) (e : Ending) : Type 0 where
+  pub number : e .number ≡ gathered rest room (next rest) .number
+  pub count : e .count ≡ gathered rest room (next rest) .count
+  pub bytes : take (e .count) rest ≡ take (e .count) (gathered rest room (next rest) .bytes)
+
+-- what a call gives that completes no record, with what its trace was gathered to
+abbrev pub carriesOn : Port → GatheredBytes → FedPort
+carriesOn port g =
+    record {
+      number = g .number;
+      consumed = g .count - port .«carried_len»;
+      written = 0;
+      port = record { dev = port .dev; carried = pad 16 (take (g .count) (g .bytes)); «carried_len» = g .count; broken = eqb (g .number) 31 };
+    }

@@ -7,6 +7,7 @@ use lib.ListN.{length, take, replicate}
 use Rattle.trace.specs.Format.{pad}
 use Rattle.trace.specs.Bench.{Bench}
 use Rattle.readiness.specs.declared.Status.{Status}
+use Rattle.readiness.specs.declared.Dev.{Dev}
 use Rattle.readiness.specs.Status.{ready}
 use Rattle.records.specs.State.{State, state}
 use Rattle.feed.specs.declared.Port.{Port}
@@ -32,6 +33,10 @@ stateOf h = state (h .port .dev) (h .statuses) (h .live) (h .cells)
 -- the bytes carried
 abbrev pub carriedOf : Port → List ℕ
 carriedOf p = take (p .«carried_len») (p .carried)
+
+-- a port with nothing carried, unbroken
+abbrev pub opened : Dev → Port
+opened d = record { dev = d; carried = replicate 16 0; «carried_len» = 0; broken = false }
 
 -- the bench that the lent memory stands for
 abbrev pub benchOf : Held → Bench State

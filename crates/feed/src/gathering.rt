@@ -2,16 +2,16 @@
 ghost use mathlib.Core.Path.{_≡_};
 ghost use mathlib.Core.Bool.{true, false};
 ghost use mathlib.Core.List.{_++_};
-ghost use Prim.Native.Nat.{_+_, _≤_, _<_};
+ghost use Prim.Native.Nat.{ℕ, _+_, _≤_, _<_};
 ghost use lib.ListN.{length, getD, take, drop};
 ghost use lib.Seq.{paste};
 ghost use Rattle.trace.specs.Format.{sizeOf, pad, longest, next};
 ghost use Rattle.trace.specs.Feed.{gathered};
-ghost use Rattle.feed.specs.Gathering.{gatheredBytes, WholeSize, NextRecord};
+ghost use Rattle.feed.specs.Gathering.{gatheredBytes, WholeSize, NextRecord, EndsAt};
+use crate::Ending;
 use crate::Gathered;
 use crate::Port;
 use crate::reading::whole_at;
-use device::decoding::decode;
 use readiness::Dev;
 use records::Record;
 
@@ -60,7 +60,7 @@ fn copy_input(input: &[u8], at: usize, n: usize) -> [u8; 17]
 }
 
 // The n bytes of a call's trace from `at` on, and zeros after them.
-fn copy(carried: &[u8], len: usize, input: &[u8], at: usize, n: usize) -> [u8; 17]
+pub fn copy(carried: &[u8], len: usize, input: &[u8], at: usize, n: usize) -> [u8; 17]
     requires { ⌜ (len ≤ length (now carried)) × (n ≤ 17) × (at + n ≤ len + length (now input)) ⌝ }
     ensures { λ r. ⌜ r ≡ pad longest (take n (drop at (take len (now (carried .entry)) ++ now (input .entry)))) ⌝ }
 {
@@ -98,22 +98,15 @@ pub fn whole_size(carried: &[u8], len: usize, input: &[u8], at: usize, space: us
     size
 }
 
-// The record at `at` in a call's trace, if it is whole and there is room for its answer; else no kind.
-pub fn next_record(carried: &[u8], len: usize, input: &[u8], at: usize, space: usize) -> Record
-    requires { ⌜ (len ≤ length (now carried)) × (at ≤ len + length (now input)) ⌝ }
-    ensures { λ r. ⌜ NextRecord (drop at (take len (now (carried .entry)) ++ now (input .entry))) space r ⌝ }
+// The record at `at` in the input, if it is whole and there is room for its answer; else no kind.
+pub fn next_record(input: &[u8], at: usize, space: usize) -> Record
+    requires { ⌜ at ≤ length (now input) ⌝ }
+    ensures { λ r. ⌜ NextRecord (drop at (now (input .entry))) space r ⌝ }
 {
     if space < 8 {
         return Record::NoKind;
     }
-    if len <= at {
-        return whole_at(input, at - len);
-    }
-    let size = whole_size(carried, len, input, at, space);
-    if size == 0 {
-        return Record::NoKind;
-    }
-    decode(copy(carried, len, input, at, size))
+    whole_at(input, at)
 }
 
 // The call's end: its number, and how many of the bytes are carried.
@@ -155,6 +148,52 @@ pub fn gather(carried: &[u8], len: usize, input: &[u8], at: usize, room: usize) 
         bytes: bytes,
         count: size,
     }
+}
+
+// The end of a call that completes no record of its trace: the number, and how many bytes are carried.
+pub fn ending(carried: &[u8], len: usize, input: &[u8]) -> Ending
+    requires { ⌜ len ≤ length (now carried) ⌝ }
+    ensures { λ r. ⌜ ((room : ℕ) → gathered (take len (now (carried .entry)) ++ now (input .entry)) room (next (take len (now (carried .entry)) ++ now (input .entry))) .runs ≡ false → EndsAt (take len (now (carried .entry)) ++ now (input .entry)) room r) ⌝ }
+    ensures { λ r. ⌜ (r .count ≤ 16) × (r .count ≤ len + length (now (input .entry))) ⌝ }
+{
+    let there = len + input.len();
+    if there == 0 {
+        return Ending {
+            number: 0,
+            count: 0,
+        };
+    }
+    let size = size_of(byte_at(carried, len, input, 0));
+    if size == 0 {
+        return Ending {
+            number: 31,
+            count: 0,
+        };
+    }
+    if there < size {
+        return Ending {
+            number: 0,
+            count: there,
+        };
+    }
+    Ending {
+        number: 30,
+        count: size - 1,
+    }
+}
+
+// The first n bytes of a call's trace, as they are carried, with zeros after them.
+pub fn carried_bytes(carried: &[u8], len: usize, input: &[u8], n: usize) -> [u8; 16]
+    requires { ⌜ (len ≤ length (now carried)) × (n ≤ 16) × (n ≤ len + length (now input)) ⌝ }
+    ensures { λ r. ⌜ r ≡ pad 16 (take n (take len (now (carried .entry)) ++ now (input .entry))) ⌝ }
+{
+    let mut bytes = [0u8; 16];
+    let mut j = 0;
+    while j < n {
+        bytes[j] = byte_at(carried, len, input, j);
+        j += 1;
+    }
+    bytes
 }
 
 // The port after a call: the first n bytes are carried, with zeros after them.

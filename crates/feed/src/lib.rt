@@ -7,13 +7,17 @@ mod lending; // statuses as they are lent, and what a set-up starts with
 mod turning; // a record's turn on the root port or the whole card, and its answer
 
 ghost use mathlib.Core.Path.{_≡_};
-ghost use Prim.Native.Nat.{_≤_};
+ghost use mathlib.Core.Bool.{false};
+ghost use mathlib.Core.List.{_++_};
+ghost use Prim.Native.Nat.{ℕ, _+_, _-_, _≤_, _<_};
 ghost use lib.Dec.{eqb};
-ghost use lib.ListN.{take};
-ghost use Rattle.trace.specs.Format.{pad};
+ghost use lib.ListN.{length, take};
+ghost use Rattle.trace.specs.Format.{pad, next};
+ghost use Rattle.trace.specs.Feed.{gathered};
 ghost use Rattle.trace.specs.Lent.{refusalOr31};
 ghost use Rattle.readiness.specs.Phases.{statusesIn};
-ghost use Rattle.feed.specs.Held.{held, lentOf};
+ghost use Rattle.feed.specs.Held.{held, lentOf, carriedOf, opened};
+ghost use Rattle.feed.specs.Gathering.{WholeSize, carriesOn};
 ghost use Rattle.feed.specs.SettingUp.{setsUp, prepared};
 ghost use Rattle.feed.specs.Feeding.{bench, feeds, left, leftInPlace};
 use choosing::lowered;
@@ -25,9 +29,13 @@ use device::requests::run_hardware;
 use device::requests::run_read;
 use device::requests::run_write;
 use frs_queue::Frs;
+use gathering::carried_bytes;
+use gathering::copy;
+use gathering::ending;
 use gathering::gather;
 use gathering::keep;
 use gathering::next_record;
+use gathering::whole_size;
 use lending::clear_cells;
 use lending::fresh_port;
 use readiness::Dev;
@@ -84,6 +92,12 @@ pub struct Gathered {
     pub runs: bool,
     pub number: u8,
     pub bytes: [u8; 17],
+    pub count: usize,
+}
+
+// The end of a call: its number, and how many bytes are carried.
+pub struct Ending {
+    pub number: u8,
     pub count: usize,
 }
 
@@ -150,10 +164,11 @@ fn call_end(dev: Dev, g: Gathered, consumed: usize, written: usize) -> FedPort
     }
 }
 
-// A call that is not refused: each whole record runs in its turn, until the trace ends, a kind is unknown or the room is too small.
-fn run_trace(
+// A call that is not refused, with nothing carried: each whole record runs in its turn, until the input ends, a kind is unknown or the room is
+// too small.
+fn run_input(
     setup: Setup,
-    port: Port,
+    start: Dev,
     phases: &mut [u64],
     live: &mut [u32],
     defaults: &[u32],
@@ -161,18 +176,16 @@ fn run_trace(
     input: &[u8],
     answers: &mut [u8],
 ) -> FedPort
-    requires { ⌜ refusalOr31 (bench setup (now defaults)) (held port (statusesIn (now phases)) (now live) (now cells)) ≡ 0 ⌝ }
-    ensures { λ r. ⌜ leftInPlace r (now (phases .exit)) (now (live .exit)) (now (cells .exit)) (now (answers .exit)) ≡ feeds setup (now (defaults .entry)) (held port (statusesIn (now (phases .entry))) (now (live .entry)) (now (cells .entry))) (now (input .entry)) (now (answers .entry)) ⌝ }
+    requires { ⌜ refusalOr31 (bench setup (now defaults)) (held (opened start) (statusesIn (now phases)) (now live) (now cells)) ≡ 0 ⌝ }
+    ensures { λ r. ⌜ leftInPlace r (now (phases .exit)) (now (live .exit)) (now (cells .exit)) (now (answers .exit)) ≡ feeds setup (now (defaults .entry)) (held (opened start) (statusesIn (now (phases .entry))) (now (live .entry)) (now (cells .entry))) (now (input .entry)) (now (answers .entry)) ⌝ }
 {
-    let carried = port.carried;
-    let len = port.carried_len;
-    let mut dev = port.dev;
+    let mut dev = start;
     let mut earliest = times::nanos_of(0);
     let mut at: usize = 0;
     let mut w: usize = 0;
     loop {
         let room = answers.len() - w;
-        let record = next_record(&carried, len, input, at, room);
+        let record = next_record(input, at, room);
         let turn = turn_of(setup.slots, earliest, dev.clock, dev.link, record);
         let next = at + record_size(record);
         let more = w + 8;
@@ -251,13 +264,109 @@ fn run_trace(
                 earliest = readiness::earliest_ready(setup.slots, phases);
             }
             Turn::End => {
-                let g = gather(&carried, len, input, at, room);
-                return call_end(dev, g, at + g.count - len, w);
+                let g = gather(input, 0, input, at, room);
+                return call_end(dev, g, at + g.count, w);
             }
         }
         at = next;
         w = more;
     }
+}
+
+// How far n goes past m.
+fn past(n: usize, m: usize) -> usize
+    ensures { λ r. ⌜ r ≡ n - m ⌝ }
+{
+    if m <= n { n - m } else { 0 }
+}
+
+// A call that completes no record: what is consumed of the input joins the carried bytes.
+fn carry_on(port: Port, input: &[u8]) -> FedPort
+    requires { ⌜ port .«carried_len» ≤ 16 ⌝ }
+    ensures { λ r. ⌜ ((room : ℕ) → gathered (carriedOf port ++ now (input .entry)) room (next (carriedOf port ++ now (input .entry))) .runs ≡ false → r ≡ carriesOn port (gathered (carriedOf port ++ now (input .entry)) room (next (carriedOf port ++ now (input .entry))))) ⌝ }
+{
+    let dev = port.dev;
+    let carried = port.carried;
+    let len = port.carried_len;
+    let end = ending(&carried, len, input);
+    FedPort {
+        number: end.number,
+        consumed: past(end.count, len),
+        written: 0,
+        port: Port {
+            dev: dev,
+            carried: carried_bytes(&carried, len, input, end.count),
+            carried_len: end.count,
+            broken: end.number == 31,
+        },
+    }
+}
+
+// Two calls, one after the other: the first consumed and wrote so much.
+fn after_first(consumed: usize, written: usize, rest: FedPort) -> FedPort
+    requires { ⌜ (consumed + rest .consumed < 18446744073709551616) × (written + rest .written < 18446744073709551616) ⌝ }
+    ensures { λ r. ⌜ r ≡ record { number = rest .number; consumed = consumed + rest .consumed; written = written + rest .written; port = rest .port } ⌝ }
+{
+    let port = rest.port;
+    FedPort {
+        number: rest.number,
+        consumed: consumed + rest.consumed,
+        written: written + rest.written,
+        port: port,
+    }
+}
+
+// A call that is not refused, with bytes carried that begin a record of `size` bytes, which is whole now: that record, and then the rest of the input.
+fn run_joined(
+    setup: Setup,
+    port: Port,
+    size: usize,
+    phases: &mut [u64],
+    live: &mut [u32],
+    defaults: &[u32],
+    cells: &mut [u32],
+    input: &[u8],
+    answers: &mut [u8],
+) -> FedPort
+    requires { ⌜ refusalOr31 (bench setup (now defaults)) (held port (statusesIn (now phases)) (now live) (now cells)) ≡ 0 ⌝ }
+    requires { ⌜ (0 < size) × WholeSize (carriedOf port ++ now input) (length (now answers)) size ⌝ }
+    ensures { λ r. ⌜ leftInPlace r (now (phases .exit)) (now (live .exit)) (now (cells .exit)) (now (answers .exit)) ≡ feeds setup (now (defaults .entry)) (held port (statusesIn (now (phases .entry))) (now (live .entry)) (now (cells .entry))) (now (input .entry)) (now (answers .entry)) ⌝ }
+{
+    let dev = port.dev;
+    let carried = port.carried;
+    let len = port.carried_len;
+    let bytes = copy(&carried, len, input, 0, size);
+    let missing = size - len;
+    let first = run_input(
+        setup,
+        dev,
+        &mut *phases,
+        &mut *live,
+        defaults,
+        &mut *cells,
+        &bytes[0..size],
+        &mut answers[0..8],
+    );
+    let between = first.port;
+    if input.len() == missing {
+        return FedPort {
+            number: 0,
+            consumed: missing,
+            written: 8,
+            port: between,
+        };
+    }
+    let rest = run_input(
+        setup,
+        between.dev,
+        phases,
+        live,
+        defaults,
+        cells,
+        &input[missing..],
+        &mut answers[8..],
+    );
+    after_first(missing, 8, rest)
 }
 
 // Feed where the statuses are numbers, three to a slot, which are changed in place: a refusal changes nothing.
@@ -282,7 +391,28 @@ pub fn feed_in_place(
             port: port,
         };
     }
-    run_trace(setup, port, phases, live, defaults, cells, input, answers)
+    let len = port.carried_len;
+    if len == 0 {
+        let dev = port.dev;
+        return run_input(setup, dev, phases, live, defaults, cells, input, answers);
+    }
+    let room = answers.len();
+    let carried = port.carried;
+    let size = whole_size(&carried, len, input, 0, room);
+    if size == 0 {
+        return carry_on(port, input);
+    }
+    run_joined(
+        setup,
+        port,
+        size,
+        phases,
+        live,
+        defaults,
+        cells,
+        input,
+        answers,
+    )
 }
 
 // Feed: a refusal changes nothing.

@@ -156,10 +156,6 @@ pub bound-padded : (e : Nanos) (l : List Status) (n : ℕ) → ReadyFrom e l →
 bound-padded e [] n b = bound-filled e n
 bound-padded e (s ∷ l) n b = (b .0, bound-padded e l n (b .1))
 
-pub bound-unpadded : (e : Nanos) (l : List Status) (n : ℕ) → ReadyFrom e (l ++ replicate n ready) → ReadyFrom e l
-bound-unpadded e [] n b = tt
-bound-unpadded e (s ∷ l) n b = (b .0, bound-unpadded e l n (b .1))
-
 -- One slot of a bounded list.
 pub bound-at : (e : Nanos) (l : List Status) (i : ℕ) → ReadyFrom e l → PhaseFrom e (getD l i ready .phase)
 bound-at e [] i b = tt

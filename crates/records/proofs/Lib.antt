@@ -11,4 +11,3 @@ pub mod SlotsKept
 pub mod Kept
 pub mod Settled
 pub mod Keeping
-pub mod Padded

@@ -8,5 +8,6 @@ pub mod OneCall
 pub mod Refusing
 pub mod Theorem
 pub mod Loop
+pub mod Rejoin
 pub mod Examples
 pub mod Laws

@@ -1,19 +1,16 @@
--- `feed::run_trace` meets its contract. The invariant is Looping's `Head`, and that no slot becomes Ready before `earliest`; a record's turn is
--- `turned`, with the part of the state that the record touches.
+-- `feed::run_input` meets its contract. The invariant is Looping's `Head`, with nothing carried, and that no slot becomes Ready before `earliest`; a
+-- record's turn is `turned`, with the part of the state that the record touches.
 -- Assumes nothing.
 use Prim.Native.Nat.{ℕ, _+_, _-_, _≤_, _<_}
 use native.Mathlib.Omega.{arith}
 use mathlib.Core.Path.{_≡_, refl, sym, ap, _∙_, subst}
 use mathlib.Core.Bool.{true, false}
-use mathlib.Core.List.{_++_}
-use lib.ListN.{length, getD, take, drop}
+use lib.ListN.{length, take, drop, replicate}
 use denote.Ref.{now}
-use mir.Syntax.{w8}
-use mir.Val.{Fits}
 use borrow.Author.Needs.{needs}
 use Rattle.trace.specs.Format.{pad, longest}
 use Rattle.trace.specs.Feed.{Gathered as GatheredBytes}
-use Rattle.trace.proofs.Lists.{bytes-of, bytes-take}
+use Rattle.trace.proofs.Lists.{bytes-of}
 use Rattle.times.specs.declared.Nanos.{Nanos}
 use Rattle.readiness.specs.Status.{entryOf}
 use Rattle.readiness.specs.Phases.{statusesIn}
@@ -26,37 +23,33 @@ use Rattle.feed.specs.declared.Turn.{Turn}
 use Rattle.feed.specs.declared.Turn.the-variants as turn
 use Rattle.feed.specs.Gathering.{gatheredBytes, recordSize}
 use Rattle.feed.specs.Turns.{Takes}
-use Rattle.feed.specs.Held.{Held, held}
+use Rattle.feed.specs.Held.{Held, held, opened}
 use Rattle.feed.proofs.Accepting.{Accepted, accepted}
 use Rattle.feed.proofs.Running.{port-runs, card-runs}
-use Rattle.feed.proofs.Looping.{record-few, next-gathers, next-decoded, Head, starts, length-trace, length-statuses, Turning, turning, ends, count-few, turned, end-reach, ended}
+use Rattle.feed.proofs.Looping.{record-few, next-gathers, next-decoded, Head, starts, length-trace, length-statuses, Turning, turning, ends, count-few, turned, ended-all}
 use Rattle.feed.proofs.Direct.{bound-zero, at-slot, one-runs, still-runs, frs-runs, clock-runs}
-use Rattle.feed.proofs.run_trace.Statement.{statement}
-use Rattle.feed.proofs.run_trace.Tie as tie
+use Rattle.feed.proofs.run_input.Statement.{statement}
+use Rattle.feed.proofs.run_input.Tie as tie
 
 abbrev Inv-loop : tie.InvT-loop
-Inv-loop phases₀ live₀ defaults cells₀ input answers₀ setup carried len dev₀ earliest₀ at₀ w₀ phases live cells answers dev earliest at w =
-    Head setup defaults carried len input answers₀ (state dev₀ (statusesIn phases₀) live₀ cells₀) answers dev (statusesIn phases) live cells at w
+Inv-loop phases₀ live₀ defaults cells₀ input answers₀ setup dev₀ earliest₀ at₀ w₀ phases live cells answers dev earliest at w =
+    Head setup defaults (replicate 16 0) 0 input answers₀ (state dev₀ (statusesIn phases₀) live₀ cells₀) answers dev (statusesIn phases) live cells at w
     × ReadyFrom earliest (statusesIn phases)
     × (length phases ≡ length phases₀)
 
 abbrev μ-loop : tie.MeasureT-loop
-μ-loop phases₀ live₀ defaults cells₀ input answers₀ setup carried len dev₀ earliest₀ at₀ w₀ phases live cells answers dev earliest at w = len + length input - at
+μ-loop phases₀ live₀ defaults cells₀ input answers₀ setup dev₀ earliest₀ at₀ w₀ phases live cells answers dev earliest at w = length input - at
 
 -- what the call is lent
 abbrev lent : tie.Start Inv-loop μ-loop → Held
-lent c = held (c .args .port) (statusesIn (now (c .args .phases))) (now (c .args .live)) (now (c .args .cells))
+lent c = held (opened (c .args .start)) (statusesIn (now (c .args .phases))) (now (c .args .live)) (now (c .args .cells))
 
 abbrev entry : tie.At-loop Inv-loop μ-loop → tie.Start Inv-loop μ-loop
-entry c = c .before .before .before .before .before .before .before .before .before .before
+entry c = c .before .before .before .before .before .before .before .before
 
 -- it is not refused
 relies : (c : tie.Start Inv-loop μ-loop) → Accepted (c .args .t1) (now (c .args .defaults)) (lent c)
 relies c = accepted (c .args .t1) (now (c .args .defaults)) (lent c) (c .pre) (search needs) (search needs)
-
--- each carried byte is one
-carried-byte : (c : tie.Start Inv-loop μ-loop) (i : ℕ) → getD (c .args .port .carried) i 0 < 256
-carried-byte c i = let f : Fits w8 (getD (c .args .port .carried) i 0) = search needs in f .fits
 
 -- no slice is longer than memory
 small : (c : tie.At-loop Inv-loop μ-loop) → (length (now (entry c .args .input)) < 9223372036854775808) × (length (now (entry c .args .answers)) < 9223372036854775808)
@@ -64,7 +57,7 @@ small c = let g = entry c .good .1 .1 .1 .1 .1 .1 in (omega (arith, g .0 .1), om
 
 -- ---- the record that was read
 abbrev head : tie.After-record-size Inv-loop μ-loop → tie.At-loop Inv-loop μ-loop
-head c = c .before .before .before .before
+head c = c .before .before .before
 
 abbrev read : tie.After-record-size Inv-loop μ-loop → Record
 read c = c .before .before .next-record .result
@@ -73,11 +66,10 @@ read c = c .before .before .next-record .result
 abbrev whole : tie.After-record-size Inv-loop μ-loop → GatheredBytes
 whole c =
     let l = head c in
-    let a = entry l .args in
     record {
       runs = true;
       number = 0;
-      bytes = pad longest (take (c .record-size .result) (drop (l .loop .at) (take (a .port .«carried_len») (a .port .carried) ++ now (a .input))));
+      bytes = pad longest (take (c .record-size .result) (drop (l .loop .at) (now (entry l .args .input))));
       count = c .record-size .result;
     }
 
@@ -142,27 +134,25 @@ some-port c = taken-port c .1
 some-card : (c : tie.After-enum-told2 Inv-loop μ-loop) → 0 < recordSize (read (c .before .before))
 some-card c = taken-card c .1
 
-read-in : (c : tie.After-turn Inv-loop μ-loop) → (c .turn .given .0 .0 .slot < length (statusesIn (c .before .before .before .before .before .before .loop .phases))) × (c .turn .given .0 .0 .slot < 32)
-read-in c = let v = c .before .before .before .before .before .before .loop .inv .0 in (omega (arith, taken-read c .1, length-statuses v), omega (arith, taken-read c .1, v .inv .good .kept .fits .most))
+read-in : (c : tie.After-turn Inv-loop μ-loop) → (c .turn .given .0 .0 .slot < length (statusesIn (c .before .before .before .before .before .loop .phases))) × (c .turn .given .0 .0 .slot < 32)
+read-in c = let v = c .before .before .before .before .before .loop .inv .0 in (omega (arith, taken-read c .1, length-statuses v), omega (arith, taken-read c .1, v .inv .good .kept .fits .most))
 
-write-in : (c : tie.After-turn2 Inv-loop μ-loop) → (c .turn2 .given .0 .0 .slot < length (statusesIn (c .before .before .before .before .before .before .loop .phases))) × (c .turn2 .given .0 .0 .slot < 32)
-write-in c = let v = c .before .before .before .before .before .before .loop .inv .0 in (omega (arith, taken-write c .1, length-statuses v), omega (arith, taken-write c .1, v .inv .good .kept .fits .most))
+write-in : (c : tie.After-turn2 Inv-loop μ-loop) → (c .turn2 .given .0 .0 .slot < length (statusesIn (c .before .before .before .before .before .loop .phases))) × (c .turn2 .given .0 .0 .slot < 32)
+write-in c = let v = c .before .before .before .before .before .loop .inv .0 in (omega (arith, taken-write c .1, length-statuses v), omega (arith, taken-write c .1, v .inv .good .kept .fits .most))
 
-hardware-in : (c : tie.After-turn3 Inv-loop μ-loop) → (c .turn3 .given .0 .0 < length (statusesIn (c .before .before .before .before .before .before .loop .phases))) × (c .turn3 .given .0 .0 < 32)
-hardware-in c = let v = c .before .before .before .before .before .before .loop .inv .0 in (omega (arith, taken-hardware c .1, length-statuses v), omega (arith, taken-hardware c .1, v .inv .good .kept .fits .most))
+hardware-in : (c : tie.After-turn3 Inv-loop μ-loop) → (c .turn3 .given .0 .0 < length (statusesIn (c .before .before .before .before .before .loop .phases))) × (c .turn3 .given .0 .0 < 32)
+hardware-in c = let v = c .before .before .before .before .before .loop .inv .0 in (omega (arith, taken-hardware c .1, length-statuses v), omega (arith, taken-hardware c .1, v .inv .good .kept .fits .most))
 
 nanos-of-requires : tie.Need-nanos-of-requires Inv-loop μ-loop
 nanos-of-requires c κs = search needs
 
 loop-holds : tie.Need-loop-holds Inv-loop μ-loop
 loop-holds c =
-    let s = c .before .before .before .before .before .before .before .before .before in
-    let a = relies s in
-    let n : length (s .args .port .carried) ≡ 16 = search needs in (
-      starts _ _ _ _ _ _ _ (s .args .port .dev) (statusesIn (now (s .args .phases))) (now (s .args .live)) (now (s .args .cells)) refl
-          (a .fits .perSlot) (a .short) n
-          (a .good) (a .begun) (bytes-take (s .args .port .«carried_len») (s .args .port .carried) (bytes-of (s .args .port .carried) (λ i h. carried-byte s i)))
-          (bytes-of (now (s .args .input)) (λ i h. omega (arith, c .before .before .before .before .shared-slice-known2 .given i))),
+    let s = c .before .before .before .before .before .before .before in
+    let a = relies s in (
+      starts _ _ _ _ _ _ _ (s .args .start) (statusesIn (now (s .args .phases))) (now (s .args .live)) (now (s .args .cells)) refl
+          (a .fits .perSlot) (a .short) refl (a .good) (a .begun) tt
+          (bytes-of (now (s .args .input)) (λ i h. omega (arith, c .before .before .shared-slice-known2 .given i))),
       subst (λ (m : Nanos). ReadyFrom m (statusesIn (now (s .args .phases)))) (sym (c .nanos-of .ensures)) (bound-zero (statusesIn (now (s .args .phases)))),
       refl,
     )
@@ -170,11 +160,8 @@ loop-holds c =
 sub-room : tie.Need-sub-room Inv-loop μ-loop
 sub-room c = let v = c .loop .inv .0 in omega (arith, v .inv .w-in, v .inv .long)
 
-slice-aggregate-next-record : tie.Need-slice-aggregate-next-record Inv-loop μ-loop
-slice-aggregate-next-record c = search needs
-
 next-record-requires : tie.Need-next-record-requires Inv-loop μ-loop
-next-record-requires c κs = let v = c .before .loop .inv .0 in (omega (arith, v .short, v .long), omega (arith, length-trace v, v .inv .at-in))
+next-record-requires c κs = let v = c .loop .inv .0 in omega (arith, length-trace v, v .inv .at-in)
 
 turn-of-requires : tie.Need-turn-of-requires Inv-loop μ-loop
 turn-of-requires c κs = tt
@@ -183,7 +170,7 @@ record-size-requires : tie.Need-record-size-requires Inv-loop μ-loop
 record-size-requires c κs = tt
 
 add-next : tie.Need-add-next Inv-loop μ-loop
-add-next c = let l = head c in let v = l .loop .inv .0 in omega (arith, record-few (read c), c .record-size .ensures, v .inv .at-in, length-trace v, v .short, small l)
+add-next c = let l = head c in let v = l .loop .inv .0 in omega (arith, record-few (read c), c .record-size .ensures, v .inv .at-in, length-trace v, small l)
 
 add-more : tie.Need-add-more Inv-loop μ-loop
 add-more c = let l = head c in omega (arith, small l, l .loop .inv .0 .inv .w-in)
@@ -195,7 +182,7 @@ status-at-requires : tie.Need-status-at-requires Inv-loop μ-loop
 status-at-requires c κs = read-in (c .before .before) .0
 
 run-read-requires : tie.Need-run-read-requires Inv-loop μ-loop
-run-read-requires c κs = let v = c .before .before .before .before .before .before .before .before .before .before .loop .inv .0 in omega (arith, v .inv .good .kept .fits .words)
+run-read-requires c κs = let v = c .before .before .before .before .before .before .before .before .before .loop .inv .0 in omega (arith, v .inv .good .kept .fits .words)
 
 answer-requires : tie.Need-answer-requires Inv-loop μ-loop
 answer-requires c κs = fits (c .before .before .before .before .before .before .before .before) (some-read (c .before .before .before .before .before .before))
@@ -213,7 +200,7 @@ status-at-requires-2 : tie.Need-status-at-requires-2 Inv-loop μ-loop
 status-at-requires-2 c κs = write-in (c .before .before .before) .0
 
 run-write-requires : tie.Need-run-write-requires Inv-loop μ-loop
-run-write-requires c κs = let f = c .before .before .before .before .before .before .before .before .before .before .before .before .loop .inv .0 .inv .good .kept .fits in (write-in (c .before .before .before .before .before .before) .1, omega (arith, f .words), omega (arith, f .defaultWords))
+run-write-requires c κs = let f = c .before .before .before .before .before .before .before .before .before .before .before .loop .inv .0 .inv .good .kept .fits in (write-in (c .before .before .before .before .before .before) .1, omega (arith, f .words), omega (arith, f .defaultWords))
 
 answer-requires-2 : tie.Need-answer-requires-2 Inv-loop μ-loop
 answer-requires-2 c κs = fits (c .before .before .before .before .before .before .before .before .before .before .before .before .before .before) (some-write (c .before .before .before .before .before .before .before .before .before .before .before .before))
@@ -231,7 +218,7 @@ status-at-requires-3 : tie.Need-status-at-requires-3 Inv-loop μ-loop
 status-at-requires-3 c κs = hardware-in (c .before .before) .0
 
 run-hardware-requires : tie.Need-run-hardware-requires Inv-loop μ-loop
-run-hardware-requires c κs = let v = c .before .before .before .before .before .before .before .before .before .before .loop .inv .0 in omega (arith, v .inv .good .kept .fits .words)
+run-hardware-requires c κs = let v = c .before .before .before .before .before .before .before .before .before .loop .inv .0 in omega (arith, v .inv .good .kept .fits .words)
 
 answer-requires-3 : tie.Need-answer-requires-3 Inv-loop μ-loop
 answer-requires-3 c κs = fits (c .before .before .before .before .before .before .before .before .before .before) (some-hardware (c .before .before .before .before .before .before .before .before))
@@ -264,11 +251,11 @@ enum-told-2 : tie.Need-enum-told-2 Inv-loop μ-loop
 enum-told-2 c = search needs
 
 card-turn-requires : tie.Need-card-turn-requires Inv-loop μ-loop
-card-turn-requires c κs = let v = c .before .before .before .before .before .before .before .before .before .before .loop .inv .0 in (v .inv .good .kept .fits .most, length-statuses v, fits (c .before .before .before .before .before .before) (some-card (c .before .before .before .before)))
+card-turn-requires c κs = let v = c .before .before .before .before .before .before .before .before .before .loop .inv .0 in (v .inv .good .kept .fits .most, length-statuses v, fits (c .before .before .before .before .before .before) (some-card (c .before .before .before .before)))
 
 earliest-ready-requires : tie.Need-earliest-ready-requires Inv-loop μ-loop
 earliest-ready-requires c κs =
-    let l = c .before .before .before .before .before .before .before .before .before .before .before .before .before .before .before .before .before .before .before .before .before in
+    let l = c .before .before .before .before .before .before .before .before .before .before .before .before .before .before .before .before .before .before .before .before in
     let v = l .loop .inv .0 in
     let s = entry l in
     let k = s .args .t1 in
@@ -284,54 +271,48 @@ earliest-ready-requires c κs =
 enum-told-3 : tie.Need-enum-told-3 Inv-loop μ-loop
 enum-told-3 c = search needs
 
-slice-aggregate-gather : tie.Need-slice-aggregate-gather Inv-loop μ-loop
-slice-aggregate-gather c = search needs
-
 gather-requires : tie.Need-gather-requires Inv-loop μ-loop
-gather-requires c κs = let v = c .before .before .before .before .before .before .before .loop .inv .0 in (omega (arith, v .short, v .long), omega (arith, length-trace v, v .inv .at-in))
+gather-requires c κs = let v = c .before .before .before .before .before .loop .inv .0 in (omega arith, omega (arith, length-trace v, v .inv .at-in))
 
 -- the call ends here
 abbrev ending : tie.After-gather Inv-loop μ-loop → GatheredBytes
 ending c = gatheredBytes (c .gather .result)
 
 ended-so : (c : tie.After-gather Inv-loop μ-loop) → ending c .runs ≡ false
-ended-so c = ap (λ (g : GatheredBytes). g .runs) (c .gather .ensures) ∙ c .before .before .before .before .before .before .next-record .ensures .size .none (ap recordSize (taken-end (c .before .before)))
+ended-so c = ap (λ (g : GatheredBytes). g .runs) (c .gather .ensures) ∙ c .before .before .before .before .before .next-record .ensures .size .none (ap recordSize (taken-end (c .before)))
 
 add-call-end : tie.Need-add-call-end Inv-loop μ-loop
-add-call-end c = let l = c .before .before .before .before .before .before .before .before .before in let v = l .loop .inv .0 in let g = c .before in omega (arith, count-few v (ending g) (g .gather .ensures), length-trace v, v .inv .at-in, v .short, small l)
-
-sub-call-end : tie.Need-sub-call-end Inv-loop μ-loop
-sub-call-end c = let v = c .before .before .before .before .before .before .before .before .before .loop .inv .0 in let g = c .before in end-reach v (ending g) (ends v (ending g) (g .gather .ensures) (ended-so g))
+add-call-end c = let l = c .before .before .before .before .before .before .before in let v = l .loop .inv .0 in let g = c .before in omega (arith, count-few v (ending g) (g .gather .ensures), length-trace v, v .inv .at-in, small l)
 
 call-end-requires : tie.Need-call-end-requires Inv-loop μ-loop
-call-end-requires c κs = let v = c .before .before .before .before .before .before .before .before .before .loop .inv .0 in let g = c .before in ends v (ending g) (g .gather .ensures) (ended-so g) .short
+call-end-requires c κs = let v = c .before .before .before .before .before .before .before .loop .inv .0 in let g = c .before in ends v (ending g) (g .gather .ensures) (ended-so g) .short
 
 same-length : tie.Need-same-length Inv-loop μ-loop
-same-length c = c .before .before .before .before .before .before .before .before .before .before .loop .inv .2
+same-length c = c .before .before .before .before .before .before .before .before .loop .inv .2
 
 same-length-2 : tie.Need-same-length-2 Inv-loop μ-loop
-same-length-2 c = c .before .before .before .before .before .before .before .before .before .before .loop .inv .0 .inv .good .kept .live
+same-length-2 c = c .before .before .before .before .before .before .before .before .loop .inv .0 .inv .good .kept .live
 
 same-length-3 : tie.Need-same-length-3 Inv-loop μ-loop
-same-length-3 c = c .before .before .before .before .before .before .before .before .before .before .loop .inv .0 .inv .good .kept .cells
+same-length-3 c = c .before .before .before .before .before .before .before .before .loop .inv .0 .inv .good .kept .cells
 
 same-length-4 : tie.Need-same-length-4 Inv-loop μ-loop
-same-length-4 c = c .before .before .before .before .before .before .before .before .before .before .loop .inv .0 .inv .long
+same-length-4 c = c .before .before .before .before .before .before .before .before .loop .inv .0 .inv .long
 
 returns : tie.Need-returns Inv-loop μ-loop
 returns c =
     let g = c .before .before in
-    let l = c .before .before .before .before .before .before .before .before .before .before in
+    let l = c .before .before .before .before .before .before .before .before in
     let s = entry l in
     let v = l .loop .inv .0 in
-    rw (c .call-end .ensures) (ended v (ending g) (ends v (ending g) (g .gather .ensures) (ended-so g)) (lent s) refl refl (s .pre))
+    rw (c .call-end .ensures) (ended-all v (ending g) (ends v (ending g) (g .gather .ensures) (ended-so g)) refl (lent s) refl refl (s .pre))
 
 loop-less : tie.Need-loop-less Inv-loop μ-loop
 loop-less c = let t = turns (c .before .before .before .before .before .before .before .before .before .before .before) (some-read (c .before .before .before .before .before .before .before .before .before)) in omega (arith, t .some, t .there)
 
 loop-again : tie.Need-loop-again Inv-loop μ-loop
 loop-again c =
-    let l = c .before .before .before .before .before .before .before .before .before .before .before .before .before .before .before in
+    let l = c .before .before .before .before .before .before .before .before .before .before .before .before .before .before in
     let v = l .loop .inv .0 in
     let s = entry l in
     let k = s .args .t1 in
@@ -354,7 +335,7 @@ loop-less-2 c = let t = turns (c .before .before .before .before .before .before
 
 loop-again-2 : tie.Need-loop-again-2 Inv-loop μ-loop
 loop-again-2 c =
-    let l = c .before .before .before .before .before .before .before .before .before .before .before .before .before .before .before .before .before .before .before .before .before .before .before .before .before .before .before .before in
+    let l = c .before .before .before .before .before .before .before .before .before .before .before .before .before .before .before .before .before .before .before .before .before .before .before .before .before .before .before in
     let v = l .loop .inv .0 in
     let s = entry l in
     let k = s .args .t1 in
@@ -377,7 +358,7 @@ loop-less-3 c = let t = turns (c .before .before .before .before .before .before
 
 loop-again-3 : tie.Need-loop-again-3 Inv-loop μ-loop
 loop-again-3 c =
-    let l = c .before .before .before .before .before .before .before .before .before .before .before .before .before .before .before .before .before in
+    let l = c .before .before .before .before .before .before .before .before .before .before .before .before .before .before .before .before in
     let v = l .loop .inv .0 in
     let s = entry l in
     let k = s .args .t1 in
@@ -400,7 +381,7 @@ loop-less-4 c = let t = turns (c .before .before .before .before .before .before
 
 loop-again-4 : tie.Need-loop-again-4 Inv-loop μ-loop
 loop-again-4 c =
-    let l = c .before .before .before .before .before .before .before .before .before .before .before .before .before .before in
+    let l = c .before .before .before .before .before .before .before .before .before .before .before .before .before in
     let v = l .loop .inv .0 in
     let s = entry l in
     let k = s .args .t1 in
@@ -421,7 +402,7 @@ loop-less-5 c = let t = turns (c .before .before .before .before .before .before
 
 loop-again-5 : tie.Need-loop-again-5 Inv-loop μ-loop
 loop-again-5 c =
-    let l = c .before .before .before .before .before .before .before .before .before .before .before .before .before .before .before .before in
+    let l = c .before .before .before .before .before .before .before .before .before .before .before .before .before .before .before in
     let v = l .loop .inv .0 in
     let s = entry l in
     let k = s .args .t1 in
@@ -443,7 +424,7 @@ loop-less-6 c = let t = turns (c .before .before .before .before .before .before
 
 loop-again-6 : tie.Need-loop-again-6 Inv-loop μ-loop
 loop-again-6 c =
-    let l = c .before .before .before .before .before .before .before .before .before .before .before .before .before in
+    let l = c .before .before .before .before .before .before .before .before .before .before .before .before in
     let v = l .loop .inv .0 in
     let s = entry l in
     let k = s .args .t1 in
@@ -466,7 +447,7 @@ loop-less-7 c = let t = turns (c .before .before .before .before .before .before
 
 loop-again-7 : tie.Need-loop-again-7 Inv-loop μ-loop
 loop-again-7 c =
-    let l = c .before .before .before .before .before .before .before .before .before .before .before .before .before .before .before .before .before .before .before .before .before .before in
+    let l = c .before .before .before .before .before .before .before .before .before .before .before .before .before .before .before .before .before .before .before .before .before in
     let v = l .loop .inv .0 in
     let s = entry l in
     let k = s .args .t1 in
@@ -482,8 +463,8 @@ loop-again-7 c =
       omega (arith, c .before .before .before .before .before .before .before .before .before .before .phases2 .given, l .loop .inv .2),
     )
 
-pub run-trace-spec : {M : Type 1} → statement M
-run-trace-spec =
+pub run-input-spec : {M : Type 1} → statement M
+run-input-spec =
     tie.close
     (tie.spec
     Inv-loop
@@ -491,7 +472,6 @@ run-trace-spec =
     nanos-of-requires
     loop-holds
     sub-room
-    slice-aggregate-next-record
     next-record-requires
     turn-of-requires
     record-size-requires
@@ -525,10 +505,8 @@ run-trace-spec =
     card-turn-requires
     earliest-ready-requires
     enum-told-3
-    slice-aggregate-gather
     gather-requires
     add-call-end
-    sub-call-end
     call-end-requires
     same-length
     same-length-2

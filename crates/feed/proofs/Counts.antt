@@ -48,10 +48,10 @@ pub record Counts (input answers : List ℕ) (x : Left Held) : Type 0 where
   pub all : x .number ≡ 0 → x .consumed ≡ length input
 
 module _ (setup : Setup) (defaults : List ℕ) (h : Held) (input answers : List ℕ) where
-  abbrev opened : Fed State
-  opened = feedOpen (device setup defaults) (benchOf h) (length answers) input
+  abbrev ran : Fed State
+  ran = feedOpen (device setup defaults) (benchOf h) (length answers) input
 
-  counts-open : Within (device setup defaults) (length answers) input opened → Counts input answers (leaves (bench setup defaults) opened answers)
+  counts-open : Within (device setup defaults) (length answers) input ran → Counts input answers (leaves (bench setup defaults) ran answers)
   counts-open w =
       record {
         consumed = w .consumed;

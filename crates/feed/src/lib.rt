@@ -3,7 +3,7 @@ mod refusing; // refusals 1 to 4, and the carried bytes' part of 5
 mod gathering; // records from a call's trace, answers, and the bytes carried
 mod reading; // a record's fields, read where they stand in the input
 mod choosing; // how a record takes its turn
-mod lending; // statuses as they are lent, and what a set-up starts with
+mod lending; // what a set-up starts with
 mod turning; // a record's turn on the root port or the whole card, and its answer
 
 ghost use mathlib.Core.Path.{_≡_};

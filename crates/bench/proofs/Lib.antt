@@ -1,4 +1,3 @@
+pub mod Values
 pub mod Padding
-pub mod Theorem
 pub mod Typed
-pub mod Laws

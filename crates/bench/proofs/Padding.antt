@@ -14,15 +14,17 @@ use Rattle.trace.proofs.Refusing.{refusal-set-up, stops-refused, feeds-stopped}
 use Rattle.readiness.specs.declared.Status.{Status}
 use Rattle.readiness.specs.declared.Setup.{Setup}
 use Rattle.readiness.specs.Status.{ready}
-use Rattle.feed.specs.declared.Port.{Port}
+use Rattle.records.specs.declared.Port.{Port}
 use Rattle.feed.specs.declared.Fed.{Fed}
-use Rattle.feed.specs.declared.SetUp.{SetUp}
-use Rattle.feed.specs.Held.{Held, held, lentOf}
-use Rattle.feed.specs.Refusals.{lengthsFit, firstFailed, setUpTests, setUpRefusal}
-use Rattle.feed.specs.SettingUp.{Prepared, prepared, freshHeld, setsUp}
-use Rattle.feed.specs.Feeding.{bench, left, feeds}
-use Rattle.feed.proofs.Lent.{length-lent, lent-take}
-use Rattle.feed.proofs.Refusals.{fits-of}
+use Rattle.set_up.specs.declared.SetUp.{SetUp}
+use Rattle.demand3.specs.Held.{Held, held, lentOf}
+use Rattle.demand3.specs.Refusals.{lengthsFit, firstFailed, setUpTests, setUpRefusal}
+use Rattle.demand3.specs.SettingUp.{Prepared, freshHeld, setsUp}
+use Rattle.set_up.specs.Prepared.{prepared}
+use Rattle.demand3.specs.Feeding.{bench, feeds}
+use Rattle.feed.specs.Left.{left}
+use Rattle.set_up.proofs.Lent.{length-lent, lent-take}
+use Rattle.demand3.proofs.Refusals.{fits-of}
 use Rattle.bench.specs.declared.Outcome.{Outcome}
 use Rattle.statuses.specs.Statuses.{storedOver}
 use Rattle.bench.specs.Entries.{leftBySetUp, leftByFeed}

@@ -9,9 +9,9 @@ use denote.Array.{Array, each}
 use denote.Struct.Field.{u8-field}
 use denote.Struct.Laws as LL
 use Rattle.trace.specs.Format.{Bytes}
-use Rattle.feed.specs.declared.Port.{Port}
-use Rattle.feed.proofs.Port as P
-use Rattle.feed.proofs.Port.Laws as P′
+use Rattle.records.specs.declared.Port.{Port}
+use Rattle.records.proofs.Port as P
+use Rattle.records.proofs.Port.Laws as P′
 
 each-byte : (xs : List ℕ) (us : List Val) → shadow (each (u8-field .row .Denot) (u8-field .row .own) xs us) → Bytes xs
 each-byte [] us s = tt

@@ -4,9 +4,9 @@ use Prim.Native.Nat.{ℕ}
 use mathlib.Core.List.{List}
 use Rattle.trace.specs.Lent.{Left}
 use Rattle.readiness.specs.declared.Status.{Status}
-use Rattle.feed.specs.declared.Port.{Port}
-use Rattle.feed.specs.Held.{Held, held}
-use Rattle.feed.specs.SettingUp.{Prepared}
+use Rattle.records.specs.declared.Port.{Port}
+use Rattle.demand3.specs.Held.{Held, held}
+use Rattle.demand3.specs.SettingUp.{Prepared}
 use Rattle.bench.specs.declared.Outcome.{Outcome}
 
 -- set-up: its number; port, statuses, live registers and queue cells at exit

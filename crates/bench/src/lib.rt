@@ -1,12 +1,14 @@
 // The public entries: set-up and feed over memory that the caller lends, the port state and the slot statuses with it.
 ghost use mathlib.Core.Path.{_≡_};
-ghost use Rattle.feed.specs.Held.{held};
-ghost use Rattle.feed.specs.SettingUp.{setsUp};
-ghost use Rattle.feed.specs.Feeding.{feeds};
+ghost use Rattle.demand3.specs.Held.{held};
+ghost use Rattle.demand3.specs.SettingUp.{setsUp};
+ghost use Rattle.demand3.specs.Feeding.{feeds};
 ghost use Rattle.bench.specs.Entries.{leftBySetUp, leftByFeed};
-use feed::Port;
+use feed::Fed;
 use readiness::Setup;
 use readiness::Status;
+use records::Port;
+use set_up::SetUp;
 use statuses::load;
 use statuses::store;
 
@@ -15,6 +17,24 @@ pub struct Outcome {
     pub number: u8,
     pub consumed: usize,
     pub written: usize,
+}
+
+fn number_made(made: SetUp) -> u8
+    ensures { λ r. ⌜ r ≡ made .number ⌝ }
+{
+    made.number
+}
+
+fn port_made(made: SetUp) -> Port
+    ensures { λ r. ⌜ r ≡ made .port ⌝ }
+{
+    made.port
+}
+
+fn statuses_made(made: SetUp) -> [Status; 32]
+    ensures { λ r. ⌜ r ≡ made .statuses ⌝ }
+{
+    made.statuses
 }
 
 // Set-up: 0, or its refusal, and then nothing changes.
@@ -31,19 +51,33 @@ pub fn set_up(
 {
     let lent = statuses.len();
     let array = load(statuses);
-    let made = feed::set_up(setup, *port, array, lent, live, defaults, cells);
-    *port = made.port;
-    store(statuses, made.statuses);
-    made.number
+    let made = set_up::set_up(setup, *port, array, lent, live, defaults, cells);
+    let next = port_made(made);
+    *port = next;
+    let after = statuses_made(made);
+    store(statuses, after);
+    number_made(made)
 }
 
-fn outcome_of(number: u8, consumed: usize, written: usize) -> Outcome
-    ensures { λ r. ⌜ r ≡ record { number = number; consumed = consumed; written = written } ⌝ }
+fn port_fed(fed: Fed) -> Port
+    ensures { λ r. ⌜ r ≡ fed .port ⌝ }
+{
+    fed.port
+}
+
+fn statuses_fed(fed: Fed) -> [Status; 32]
+    ensures { λ r. ⌜ r ≡ fed .statuses ⌝ }
+{
+    fed.statuses
+}
+
+fn outcome_of(fed: Fed) -> Outcome
+    ensures { λ r. ⌜ r ≡ record { number = fed .number; consumed = fed .consumed; written = fed .written } ⌝ }
 {
     Outcome {
-        number: number,
-        consumed: consumed,
-        written: written,
+        number: fed.number,
+        consumed: fed.consumed,
+        written: fed.written,
     }
 }
 
@@ -74,7 +108,9 @@ pub fn feed(
         input,
         answers,
     );
-    *port = fed.port;
-    store(statuses, fed.statuses);
-    outcome_of(fed.number, fed.consumed, fed.written)
+    let next = port_fed(fed);
+    *port = next;
+    let after = statuses_fed(fed);
+    store(statuses, after);
+    outcome_of(fed)
 }

@@ -7,9 +7,10 @@ use lib.Dec.{eqb, eqb→eq, ltb, ltb→lt}
 use Rattle.bits.specs.Bits.{bit, number, word, enabled}
 use Rattle.bits.proofs.Tests.{all-at}
 
--- each enable in the lowest bit of its lane, times 255, as code on u32 has it
+-- the four enables, shifted so that each stands in the lowest bit of its lane, and those four bits times 255, as code on u32 has it
 abbrev pub spread : ℕ → ℕ
-spread e = bitOr (bitOr (bitOr (bitAnd e 1) (bitAnd e 2 * 2 ^ 7 % 2 ^ 32)) (bitAnd e 4 * 2 ^ 14 % 2 ^ 32)) (bitAnd e 8 * 2 ^ 21 % 2 ^ 32) * 255
+spread e =
+    bitAnd (bitOr (bitOr (bitOr (bitAnd e 15) (bitAnd e 15 * 2 ^ 7 % 2 ^ 32)) (bitAnd e 15 * 2 ^ 14 % 2 ^ 32)) (bitAnd e 15 * 2 ^ 21 % 2 ^ 32)) 0x01010101 * 255
 
 -- it fits a word, and has all eight bits of each enabled lane: a test at each byte of enables
 pub spread-lt : (e : ℕ) → e < 256 → spread e < 2 ^ 32

@@ -9,10 +9,10 @@ use lib.Seq.{take-all}
 use Rattle.trace.specs.Lent.{Left}
 use Rattle.readiness.specs.declared.Status.{Status}
 use Rattle.readiness.specs.declared.Setup.{Setup}
-use Rattle.feed.specs.declared.Port.{Port}
-use Rattle.feed.specs.Held.{Held, held}
-use Rattle.feed.specs.SettingUp.{Prepared, setsUp}
-use Rattle.feed.specs.Feeding.{feeds}
+use Rattle.records.specs.declared.Port.{Port}
+use Rattle.demand3.specs.Held.{Held, held}
+use Rattle.demand3.specs.SettingUp.{Prepared, setsUp}
+use Rattle.demand3.specs.Feeding.{feeds}
 use Rattle.bench.specs.declared.Outcome.{Outcome}
 use Rattle.bench.specs.Entries.{leftBySetUp, leftByFeed}
 use Rattle.by_value.specs.First.{andRest, setsUpFirst, feedsFirst}

@@ -5,9 +5,9 @@ use mathlib.Core.List.{List, _++_}
 use lib.ListN.{take, drop}
 use Rattle.trace.specs.Lent.{Left}
 use Rattle.readiness.specs.declared.Setup.{Setup}
-use Rattle.feed.specs.Held.{Held, held}
-use Rattle.feed.specs.SettingUp.{Prepared, setsUp}
-use Rattle.feed.specs.Feeding.{feeds}
+use Rattle.demand3.specs.Held.{Held, held}
+use Rattle.demand3.specs.SettingUp.{Prepared, setsUp}
+use Rattle.demand3.specs.Feeding.{feeds}
 
 -- only the first n statuses are lent
 abbrev pub firstOf : ℕ → Held → Held

@@ -1,14 +1,14 @@
 // The public entries for callers that hold a port and an array of statuses by value.
 ghost use mathlib.Core.Path.{_≡_};
-ghost use Rattle.feed.specs.Held.{held};
+ghost use Rattle.demand3.specs.Held.{held};
 ghost use Rattle.bench.specs.Entries.{leftBySetUp, leftByFeed};
 ghost use Rattle.by_value.specs.First.{setsUpFirst, feedsFirst};
 use bench::Outcome;
 use feed::Fed;
-use feed::Port;
-use feed::SetUp;
 use readiness::Setup;
 use readiness::Status;
+use records::Port;
+use set_up::SetUp;
 use statuses::at_most_32;
 
 fn set_up_with(number: u8, port: Port, statuses: [Status; 32]) -> SetUp

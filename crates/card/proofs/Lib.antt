@@ -1,6 +1,2 @@
 pub mod Lines
 pub mod Reading
-pub mod Examples
-pub mod Comments
-pub mod Kept
-pub mod Laws

@@ -10,10 +10,10 @@ use lib.Dec.{ltb}
 use lib.ListN.{length, getD, take, drop, drop-of-length-le}
 use lib.Seq.{drop-cons, drop-drop}
 use borrow.Author.Tests.{ltb-true, ltb-false}
-use Rattle.card.specs.declared.Reason.{Reason}
-use Rattle.card.specs.declared.Reason.the-variants.{Fine}
+use Rattle.card_grammar.specs.declared.Reason.{Reason}
+use Rattle.card_grammar.specs.declared.Reason.the-variants.{Fine}
 use Rattle.fields.specs.Text.{part, inLine, onto, linesOf, run, runEnd}
-use Rattle.card.specs.Sheet.{isFine, Entered, entered, enterLine, Told, told, readLines}
+use Rattle.card_grammar.specs.Sheet.{isFine, Entered, entered, enterLine, Told, told, readLines}
 use Rattle.fields.proofs.Runs.{runEnd-most}
 
 -- ---- the first line, and the lines after it

@@ -6,10 +6,10 @@ use mathlib.Core.List.{List}
 use Prim.Native.Nat.{ℕ, _%_}
 use lib.ListN.{length}
 use Rattle.readiness.specs.declared.Setup.{Setup}
-use Rattle.card.specs.declared.Reason.{Reason}
+use Rattle.card_grammar.specs.declared.Reason.{Reason}
 use Rattle.fields.specs.Text.{linesOf}
-use Rattle.card.specs.Sheet.{queuePlace, named, isFine, firstOf, Told, told, readLines}
-use Rattle.card.specs.Card.{blankSheet, setupFrom, missing, room, storedWords, outcome, outcomeFrom, cardOf}
+use Rattle.card_grammar.specs.Sheet.{queuePlace, named, isFine, firstOf, Told, told, readLines}
+use Rattle.card_grammar.specs.Card.{blankSheet, setupFrom, missing, room, storedWords, outcome, outcomeFrom, cardOf}
 
 module _ (text words : List ℕ) {sheet after : List ℕ} {line queue : ℕ} {refused lacking roomy inner why : Reason} {ok : Bool} {setup : Setup}
     (read : told line refused sheet ≡ readLines 0 (linesOf text) blankSheet)

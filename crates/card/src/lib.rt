@@ -1,13 +1,15 @@
-// The reader of a card's text: which bytes are a card, and which card; the grammar is in specs/.
+// The reader of a card's text: which bytes are a card, and which card; the grammar is in card_grammar.
 ghost use mathlib.Core.Path.{_≡_};
 ghost use Prim.Native.Nat.{_+_, _<_, _≤_};
 ghost use mathlib.Core.Bool.{_&&_, cond};
 ghost use lib.Dec.{eqb, leb, ltb};
 ghost use lib.ListN.{length, drop, getD, set};
 ghost use Rattle.fields.specs.Text.{numberAt, runEnd, inLine, field, noField, same, noNumber, numberOf, linesOf};
-ghost use Rattle.card.specs.Sheet.{notNamed, wordPlace, entryPlace, slotAt, hexAt, codeAt, named, isFine, firstOf, unfit as unfitOf, wantsWord, wantsNumber, wantsEnd, inRange, notTwice, slotAllowed, entered, put as putOf, whyNotNumber, enterNumber, offsetAllowed, wordAllowed, whyNotWord, enterWord, wantsCode, wantsYesNo, oneIf, isYes, whyNotCodes, whyNotFrs, whyNotSlot, putCode, putFrs, enterSlot, enterLine, told as toldOf, readLines};
-ghost use Rattle.card.specs.declared.Reason.the-variants.{Fine};
-ghost use Rattle.card.specs.Card.{namedBelow, codeFrom, slotFrom, slotsFrom, setupFrom, mustBeNamed, missing as missingOf, room as roomOf, storedWords, outcome, cardOf};
+ghost use Rattle.card_grammar.specs.Sheet.{notNamed, wordPlace, entryPlace, slotAt, hexAt, codeAt, named, isFine, firstOf, unfit as unfitOf, wantsWord, wantsNumber, wantsEnd, inRange, notTwice, slotAllowed, entered, put as putOf, whyNotNumber, enterNumber, offsetAllowed, wordAllowed, whyNotWord, enterWord, wantsCode, wantsYesNo, oneIf, isYes, whyNotCodes, whyNotFrs, whyNotSlot, putCode, putFrs, enterSlot, enterLine, told as toldOf, readLines};
+ghost use Rattle.card_grammar.specs.declared.Reason.the-variants.{Fine};
+ghost use Rattle.card_grammar.specs.Card.{namedBelow, codeFrom, slotFrom, slotsFrom, setupFrom, mustBeNamed, missing as missingOf, room as roomOf, storedWords, outcome, cardOf};
+use card_grammar::CardRead;
+use card_grammar::Reason;
 use fields::between;
 use fields::field_is;
 use fields::line_end;
@@ -16,39 +18,6 @@ use fields::number_at;
 use readiness::Setup;
 use readiness::Slot;
 use times::Code;
-
-// Why a text is refused; Fine where it isn't.
-pub enum Reason {
-    Fine,
-    // A word other than those that the grammar has there.
-    UnknownWord,
-    // No number, or one with too few or too many digits.
-    BadNumber,
-    // The line ends before the fact does.
-    LineTooShort,
-    // Something stands after the fact.
-    LineTooLong,
-    // A number that isn't allowed there.
-    OutOfRange,
-    // A slot or a word before `slots`.
-    SlotsFirst,
-    // A fact that an earlier line has.
-    NamedTwice,
-    // `slots`, `queue`, `bus` or `port` is missing at the end.
-    Missing,
-    // Other than 2,048 words are lent.
-    NoRoom,
-}
-
-// A reading: whether the text is a card; how many lines were read, the last of which is refused where one is; the reason; and
-// the card, as far as it was read.
-pub struct CardRead {
-    pub ok: bool,
-    pub line: usize,
-    pub reason: Reason,
-    pub setup: Setup,
-    pub queue: usize,
-}
 
 // How many lines were read, and why the last is refused.
 struct Told {

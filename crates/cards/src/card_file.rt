@@ -1,5 +1,5 @@
 // A card from its file.
-use card::Reason;
+use card_grammar::Reason;
 use desk::files::close_file;
 use desk::files::complain;
 use desk::files::complain_line;
@@ -7,14 +7,14 @@ use desk::files::complain_read;
 use desk::files::last_error;
 use desk::files::name_file;
 use desk::files::open_file;
+use line_text::numbers::at_most;
+use line_text::numbers::wide;
+use line_text::text::LINE;
+use line_text::text::put_named;
+use line_text::text::put_text;
 use readiness::Setup;
 use readiness::Slot;
 use usage::outcome::Outcome;
-use words::numbers::at_most;
-use words::numbers::wide;
-use words::text::LINE;
-use words::text::put_named;
-use words::text::put_text;
 
 // A card from a file: whether it is one, how the reading ended, and the card.
 pub struct Loaded {

@@ -9,11 +9,11 @@ use desk::printing::nothing_waits;
 use readiness::Setup;
 use readiness::Slot;
 use runs::session::refusal_of;
+use state_lines::card_words::put_default;
+use state_lines::card_words::put_entry;
+use state_lines::card_words::put_front;
 use usage::outcome::Outcome;
 use usage::outcome::unless_error;
-use words::card_words::put_default;
-use words::card_words::put_entry;
-use words::card_words::put_front;
 
 fn print_front(printed: &mut [u8], w: Waiting, setup: Setup, queue: usize) -> Waiting {
     let end = put_front(

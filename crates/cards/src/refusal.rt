@@ -1,20 +1,20 @@
 // Why a card's set-up is refused: the slot, and the word, at fault.
 use desk::files::complain_line;
 use desk::files::name_file;
+use line_text::numbers::wide;
+use line_text::numbers::wide16;
+use line_text::numbers::word_at;
+use line_text::text::LINE;
+use line_text::text::put_hex2;
+use line_text::text::put_hex3;
+use line_text::text::put_named;
+use line_text::text::put_text;
 use readiness::Setup;
 use readiness::Slot;
 use times::Code;
+use trace_lines::trace_words::put_refusal;
 use usage::outcome::Outcome;
-use words::numbers::wide;
-use words::numbers::wide16;
-use words::numbers::word_at;
 use words::record_words::put_word;
-use words::text::LINE;
-use words::text::put_hex2;
-use words::text::put_hex3;
-use words::text::put_named;
-use words::text::put_text;
-use words::trace_words::put_refusal;
 
 // ---- A time code
 

@@ -1,8 +1,8 @@
 // The two calls that the cases drive.
 use crate::turn::Turn;
 use feed::Fed;
-use feed::SetUp;
 use readiness::Setup;
+use set_up::SetUp;
 
 pub fn set_up_lent(
     setup: Setup,

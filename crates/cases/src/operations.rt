@@ -10,7 +10,6 @@ use crate::turn::Turn;
 use crate::turn::ended;
 use crate::turn::turned;
 use feed::Fed;
-use feed::Port;
 use image::numbers::put;
 use image::numbers::put_four;
 use image::numbers::size;
@@ -22,6 +21,7 @@ use image::state::state_bytes;
 use image::state::statuses_in;
 use readiness::Setup;
 use readiness::Status;
+use records::Port;
 
 fn write_state(lent: usize, port: Port, statuses: [Status; 32], live: &[u32], cells: &[u32]) {
     let image = state_bytes(port, statuses);

@@ -1,6 +1,6 @@
 // What goes from one operation of a case to the next, beside the lent slices.
-use feed::Port;
 use readiness::Status;
+use records::Port;
 
 // Whether the case goes on, whether all was good so far, the port and the statuses.
 pub struct Turn {

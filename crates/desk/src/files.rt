@@ -1,8 +1,8 @@
 // Files by the arguments that name them, and what is wrong with them.
-use words::numbers::wide;
-use words::text::LINE;
-use words::text::put_named;
-use words::text::put_text;
+use line_text::numbers::wide;
+use line_text::text::LINE;
+use line_text::text::put_named;
+use line_text::text::put_text;
 
 pub fn complain(text: &[u8]) {
     io::write_all(libc::STDERR_FILENO, text);

@@ -1,8 +1,8 @@
 // Output that is written in large pieces: bytes wait in a buffer until it is full.
 use crate::files::last_error;
-use words::numbers::at_most;
-use words::text::LINE;
-use words::text::put_byte;
+use line_text::numbers::at_most;
+use line_text::text::LINE;
+use line_text::text::put_byte;
 
 // How many bytes of a buffer wait to be written, and the error of the first write that failed, 0 while none has.
 pub struct Waiting {

@@ -2,13 +2,13 @@
 use crate::files::complain_line;
 use crate::files::last_error;
 use crate::files::name_file;
-use words::numbers::byte_at;
-use words::numbers::wide;
-use words::numbers::wide8;
-use words::text::LINE;
-use words::text::put_hex2;
-use words::text::put_named;
-use words::text::put_text;
+use line_text::numbers::byte_at;
+use line_text::numbers::wide;
+use line_text::numbers::wide8;
+use line_text::text::LINE;
+use line_text::text::put_hex2;
+use line_text::text::put_named;
+use line_text::text::put_text;
 
 // How much is read at once.
 pub const PIECE: usize = 65536;

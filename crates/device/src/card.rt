@@ -4,6 +4,7 @@ ghost use mathlib.Core.Bool.{true, false, _&&_};
 ghost use mathlib.Core.List.{List, []};
 ghost use Prim.Native.Nat.{ℕ, _≤_};
 ghost use lib.ListN.{length};
+ghost use Rattle.registers.specs.Rows.{masks};
 ghost use Rattle.times.specs.Moments.{sumOf};
 ghost use Rattle.frs_queue.specs.Queue.{noTally};
 ghost use Rattle.readiness.specs.declared.Status.{Status};
@@ -26,6 +27,7 @@ use records::Record;
 use records::Reply;
 use records::Started;
 use registers::Kind;
+use registers::Masks;
 use times::Nanos;
 
 // The clock goes no further than this.
@@ -90,26 +92,28 @@ fn link_up(setup: Setup, dev: Dev, phases: &mut [u64]) -> Started
     if dev.link {
         return Started::Refused(Completion::WrongState);
     }
-    readiness::start_all(setup, dev, phases);
-    Started::Does(readiness::after_link_up(dev))
+    settle::start_all(setup, dev, phases);
+    Started::Does(settle::after_link_up(dev))
 }
 
 // Link down: registers take their link-down reset; 23 when down.
 fn link_down(
+    table: &Masks,
     setup: Setup,
     dev: Dev,
     phases: &mut [u64],
     live: &mut [u32],
     defaults: &[u32],
 ) -> Started
+    requires { ⌜ now table ≡ masks ⌝ }
     requires { ⌜ length (statusesIn (now phases)) ≡ setup .slots ⌝ }
     ensures { λ r. ⌜ ((cells : List ℕ) → startedEffect r (statusesIn (now (phases .exit))) (now (live .exit)) cells ≡ linkDownEffect setup (now (defaults .entry)) (state dev (statusesIn (now (phases .entry))) (now (live .entry)) cells)) ⌝ }
     ensures { λ r. ⌜ (isRefused r ≡ true → (now (phases .exit) ≡ now (phases .entry)) × (now (live .exit) ≡ now (live .entry))) ⌝ }
 {
     if dev.link {
-        registers::link_reset_all(card_kind(setup), live, defaults);
-        readiness::stop_all(setup, phases);
-        return Started::Does(readiness::after_link_down(dev));
+        config_words::link_reset_all(table, card_kind(setup), live, defaults);
+        settle::stop_all(setup, phases);
+        return Started::Does(settle::after_link_down(dev));
     }
     Started::Refused(Completion::WrongState)
 }
@@ -126,13 +130,14 @@ fn cold_reset(
     ensures { λ r. ⌜ ((cells : List ℕ) → startedEffect r (statusesIn (now (phases .exit))) (now (live .exit)) cells ≡ coldResetEffect setup (now (defaults .entry)) (state dev (statusesIn (now (phases .entry))) (now (live .entry)) cells)) ⌝ }
     ensures { λ r. ⌜ isRefused r ≡ false ⌝ }
 {
-    registers::cold_reset(live, defaults);
-    readiness::stop_all(setup, phases);
-    Started::Does(readiness::after_cold_reset(dev))
+    config_words::cold_reset(live, defaults);
+    settle::stop_all(setup, phases);
+    Started::Does(settle::after_cold_reset(dev))
 }
 
 // What a record that touches every slot does before slots become Ready; another one changes nothing and is answered with 0.
 fn start(
+    table: &Masks,
     setup: Setup,
     dev: Dev,
     phases: &mut [u64],
@@ -140,6 +145,7 @@ fn start(
     defaults: &[u32],
     record: Record,
 ) -> Started
+    requires { ⌜ now table ≡ masks ⌝ }
     requires { ⌜ (setup .slots ≤ 32) × (length (statusesIn (now phases)) ≡ setup .slots) ⌝ }
     ensures { λ r. ⌜ ((cells : List ℕ) → startedEffect r (statusesIn (now (phases .exit))) (now (live .exit)) cells ≡ cardEffect setup (now (defaults .entry)) «record» (state dev (statusesIn (now (phases .entry))) (now (live .entry)) cells)) ⌝ }
     ensures { λ r. ⌜ (isRefused r ≡ true → (now (phases .exit) ≡ now (phases .entry)) × (now (live .exit) ≡ now (live .entry))) ⌝ }
@@ -147,7 +153,7 @@ fn start(
     match record {
         Record::Advance(by) => advance(dev, by),
         Record::LinkUp => link_up(setup, dev, phases),
-        Record::LinkDown => link_down(setup, dev, phases, live, defaults),
+        Record::LinkDown => link_down(table, setup, dev, phases, live, defaults),
         Record::ColdReset => cold_reset(setup, dev, phases, live, defaults),
         Record::Read(_) => Started::Refused(Completion::Done),
         Record::Write(_, _) => Started::Refused(Completion::Done),
@@ -167,7 +173,7 @@ fn settled(setup: Setup, dev: Dev, phases: &mut [u64], cells: &mut [u32]) -> Por
     requires { ⌜ (setup .slots ≤ 32) × (length (statusesIn (now phases)) ≡ setup .slots) ⌝ }
     ensures { λ r. ⌜ ((before : State) (live : List ℕ) → cardRan r (statusesIn (now (phases .exit))) live (now (cells .exit)) ≡ answered setup before (does (state dev (statusesIn (now (phases .entry))) live (now (cells .entry))) noTally 0)) ⌝ }
 {
-    let port = readiness::settle(setup, phases, root_port(dev), cells);
+    let port = settle::settle(setup, phases, root_port(dev), cells);
     let after = port.dev;
     let tally = port.tally;
     PortDone {
@@ -182,6 +188,7 @@ fn settled(setup: Setup, dev: Dev, phases: &mut [u64], cells: &mut [u32]) -> Por
 
 // A record that touches every slot runs; another one is answered with 0 and changes nothing.
 pub fn run_card(
+    table: &Masks,
     setup: Setup,
     dev: Dev,
     phases: &mut [u64],
@@ -190,10 +197,19 @@ pub fn run_card(
     cells: &mut [u32],
     record: Record,
 ) -> PortDone
+    requires { ⌜ now table ≡ masks ⌝ }
     requires { ⌜ (setup .slots ≤ 32) × (length (statusesIn (now phases)) ≡ setup .slots) ⌝ }
     ensures { λ r. ⌜ cardRan r (statusesIn (now (phases .exit))) (now (live .exit)) (now (cells .exit)) ≡ cardRun setup (now (defaults .entry)) «record» (state dev (statusesIn (now (phases .entry))) (now (live .entry)) (now (cells .entry))) ⌝ }
 {
-    let started = start(setup, dev, &mut *phases, &mut *live, defaults, record);
+    let started = start(
+        table,
+        setup,
+        dev,
+        &mut *phases,
+        &mut *live,
+        defaults,
+        record,
+    );
     match started {
         Started::Refused(completion) => PortDone {
             dev: dev,

@@ -67,13 +67,13 @@ fn receive(port_id: u16, dev: Dev, cells: &mut [u32], message: Message) -> PortD
 {
     match message {
         Message::NotReadiness => done(dev, Completion::NoReadinessMessage, 0),
-        Message::Drs(_) => received(readiness::drs_arrives(root_port(dev), cells, port_id)),
+        Message::Drs(_) => received(settle::drs_arrives(root_port(dev), cells, port_id)),
         Message::Frs(id, reason) => {
             let frs = Frs {
                 id: id,
                 reason: reason,
             };
-            received(readiness::frs_arrives(root_port(dev), cells, frs))
+            received(settle::frs_arrives(root_port(dev), cells, frs))
         }
     }
 }

@@ -5,7 +5,8 @@ ghost use mathlib.Core.List.{List};
 ghost use Prim.Native.Nat.{ℕ, _+_, _*_, _≤_, _<_};
 ghost use lib.ListN.{length};
 ghost use Rattle.bits.specs.Bits.{bit};
-ghost use Rattle.registers.specs.Functions.{linkResetSlot};
+ghost use Rattle.registers.specs.Rows.{masks};
+ghost use Rattle.config_space.specs.Functions.{linkResetSlot};
 ghost use Rattle.readiness.specs.declared.Dev.{Dev};
 ghost use Rattle.readiness.specs.declared.Slot.{Slot};
 ghost use Rattle.frs_queue.specs.Queue.{noTally};
@@ -29,6 +30,7 @@ use records::Reply;
 use records::Request;
 use records::SlotDone;
 use registers::Kind;
+use registers::Masks;
 
 // What a slot holds.
 pub fn kind_of(setup: Setup, slot: usize) -> Kind
@@ -45,17 +47,19 @@ fn starts_d3hot(word: usize, old: u32, new: u32) -> bool
 }
 
 // As link down in that slot, if No_Soft_Reset is 0 in the new PMCSR; else no other bit changes.
-fn d3hot_reset(kind: Kind, slot: usize, new: u32, live: &mut [u32], defaults: &[u32])
+fn d3hot_reset(table: &Masks, kind: Kind, slot: usize, new: u32, live: &mut [u32], defaults: &[u32])
+    requires { ⌜ now table ≡ masks ⌝ }
     ensures { λ _. ⌜ now (live .exit) ≡ cond (bit new 3) (now (live .entry)) (linkResetSlot kind slot (now (live .entry)) (now (defaults .entry))) ⌝ }
 {
     if new & 8 != 0 {
         return;
     }
-    registers::link_reset_slot(kind, slot, live, defaults);
+    config_words::link_reset_slot(table, kind, slot, live, defaults);
 }
 
 // Configuration write of a Ready slot: the write is finished first, then the FLR or the way from D3hot starts, if it is one.
 fn write_ready(
+    table: &Masks,
     kind: Kind,
     entry: Slot,
     dev: Dev,
@@ -65,6 +69,7 @@ fn write_ready(
     q: Request,
     value: u32,
 ) -> Status
+    requires { ⌜ now table ≡ masks ⌝ }
     requires { ⌜ (q .slot * 64 + 64 ≤ length (now live)) × (q .slot * 64 + 64 ≤ length (now defaults)) × (q .word < 64) ⌝ }
     ensures { λ r. ⌜ ((cells : List ℕ) → seat dev r (now (live .exit)) cells ≡ writeSeat kind entry (now (defaults .entry)) q value (seat dev status (now (live .entry)) cells)) ⌝ }
 {
@@ -73,16 +78,16 @@ fn write_ready(
     let at = slot * 64 + word;
     let capabilities = slot * 64 + 0x1D;
     let old = live[at];
-    let new = registers::write_word(kind, word, old, value, q.enables);
+    let new = registers::write_word(table, kind, word, old, value, q.enables);
     live[at] = new;
     let clock = dev.clock;
     if registers::starts_flr(kind, word, value, q.enables, defaults[capabilities]) {
-        registers::flr_reset_slot(kind, slot, live, defaults);
-        return readiness::flr_status(clock, entry);
+        config_words::flr_reset_slot(table, kind, slot, live, defaults);
+        return settle::flr_status(clock, entry);
     }
     if starts_d3hot(word, old, new) {
-        d3hot_reset(kind, slot, new, live, defaults);
-        return readiness::d3hot_status(clock, entry);
+        d3hot_reset(table, kind, slot, new, live, defaults);
+        return settle::d3hot_status(clock, entry);
     }
     status
 }
@@ -100,7 +105,7 @@ fn settled(
     requires { ⌜ slot < 32 ⌝ }
     ensures { λ r. ⌜ ((before : Seat) (live : List ℕ) → slotRan r live (now (cells .exit)) ≡ slotAnswered bus entry slot before (does (seat dev status live (now (cells .entry))) noTally «data»)) ⌝ }
 {
-    let settled = readiness::settle_slot(bus, entry, slot, status, root_port(dev), cells);
+    let settled = settle::settle_slot(bus, entry, slot, status, root_port(dev), cells);
     let port = settled.port;
     let after = settled.status;
     let dev = port.dev;
@@ -154,7 +159,7 @@ fn finished(
     requires { ⌜ slot < 32 ⌝ }
     ensures { λ r. ⌜ ((before : Seat) (live : List ℕ) → slotRan r live (now (cells .exit)) ≡ slotAnswered bus entry slot before (does (seat dev status live (now (cells .entry))) noTally 0)) ⌝ }
 {
-    if readiness::is_ready(status) {
+    if settle::is_ready(status) {
         return SlotDone {
             dev: dev,
             status: status,
@@ -166,6 +171,7 @@ fn finished(
 
 // A configuration write runs.
 pub fn run_write(
+    table: &Masks,
     slots: usize,
     kind: Kind,
     bus: u8,
@@ -179,12 +185,13 @@ pub fn run_write(
     q: Request,
     value: u32,
 ) -> SlotDone
+    requires { ⌜ now table ≡ masks ⌝ }
     requires { ⌜ (slot < 32) × (64 * slots ≤ length (now live)) × (64 * slots ≤ length (now defaults)) ⌝ }
     ensures { λ r. ⌜ slotRan r (now (live .exit)) (now (cells .exit)) ≡ slotRun slots kind bus entry (now (defaults .entry)) slot (variants.Write q value) (seat dev status (now (live .entry)) (now (cells .entry))) ⌝ }
 {
     let route = route_of(slots, dev, status, false, q);
     if is_access(route) {
-        let after = write_ready(kind, entry, dev, status, live, defaults, q, value);
+        let after = write_ready(table, kind, entry, dev, status, live, defaults, q, value);
         return finished(bus, entry, slot, dev, after, cells);
     }
     SlotDone {
@@ -196,6 +203,7 @@ pub fn run_write(
 
 // Hardware sets bits of a slot's word: no more than the word changes.
 pub fn run_hardware(
+    table: &Masks,
     slots: usize,
     kind: Kind,
     status: Status,
@@ -204,6 +212,7 @@ pub fn run_hardware(
     word: usize,
     mask: u32,
 ) -> Reply
+    requires { ⌜ now table ≡ masks ⌝ }
     requires { ⌜ 64 * slots ≤ length (now live) ⌝ }
     ensures { λ r. ⌜ ((dev : Dev) (bus : ℕ) (entry : Slot) (defaults : List ℕ) (at : ℕ) (cells : List ℕ) → slotRun slots kind bus entry defaults at (variants.HardwareSet slot word mask) (seat dev status (now (live .entry)) cells) ≡ record { after = seat dev status (now (live .exit)) cells; reply = r }) ⌝ }
 {
@@ -213,9 +222,9 @@ pub fn run_hardware(
     if 63 < word {
         return plain_reply(Completion::NoWord, 0);
     }
-    if readiness::is_ready(status) {
+    if settle::is_ready(status) {
         let at = slot * 64 + word;
-        live[at] = registers::hardware_set(kind, word, live[at], mask);
+        live[at] = registers::hardware_set(table, kind, word, live[at], mask);
         return plain_reply(Completion::Done, 0);
     }
     plain_reply(Completion::WrongState, 0)

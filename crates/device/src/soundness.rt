@@ -16,7 +16,7 @@ use readiness::Cause;
 use readiness::Dev;
 use readiness::Phase;
 use readiness::Status;
-use readiness::phases::status_at;
+use settle::phases::status_at;
 use times::Nanos;
 
 // The time of the greatest code.
@@ -126,7 +126,7 @@ fn sound_owed(dev: Dev, slots: usize, phases: &[u64]) -> bool
     ensures { λ r. ⌜ r ≡ soundOwed dev (statusesIn (now (phases .entry))) ⌝ }
 {
     if dev.owed {
-        dev.link & !readiness::all_ready(slots, phases)
+        dev.link & !settle::all_ready(slots, phases)
     } else {
         true
     }

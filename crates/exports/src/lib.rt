@@ -1,28 +1,16 @@
 // The static library for the benchmark: a card's text and a trace in, answers and the final state as bytes out.
-ghost use mathlib.Core.Path.{_≡_};
-ghost use Prim.Native.Nat.{_<_, _≤_};
-ghost use lib.ListN.{replicate};
-ghost use Rattle.readiness.specs.Status.{down};
-ghost use Rattle.feed.specs.Held.{held, lentOf};
-ghost use Rattle.feed.specs.SettingUp.{freshDev, freshPort};
-ghost use Rattle.feed.specs.Feeding.{left};
-ghost use Rattle.exports.specs.Pieces.{pieceOf, inPieces, runsOn};
-use card::CardRead;
+ghost use Prim.Native.Nat.{_≤_};
+use card_grammar::CardRead;
 use feed::Fed;
-use feed::Port;
-use frs_queue::Queue;
 use image::numbers::put_eight;
 use image::numbers::put_first;
 use image::numbers::put_words_at;
-use image::state::all_down;
 use image::state::image_size;
 use image::state::state_bytes;
-use readiness::Control;
-use readiness::Dev;
+use pieces::run_over;
 use readiness::Setup;
 use readiness::Status;
-use readiness::phases::in_numbers;
-use readiness::phases::in_statuses;
+use records::Port;
 
 // The card's text is refused.
 const BAD_CARD: u64 = 100;
@@ -34,149 +22,6 @@ fn at_most(n: usize, most: usize) -> usize
     ensures { λ r. ⌜ r ≤ most ⌝ }
 {
     if n <= most { n } else { most }
-}
-
-// ---- The trace in pieces
-
-// How much of what is left the next piece has; a size of 0 stands for all of it.
-fn next_piece(size: usize, left: usize) -> usize
-    ensures { λ r. ⌜ r ≡ pieceOf size left ⌝ }
-{
-    if size == 0 {
-        return left;
-    }
-    if left < size {
-        return left;
-    }
-    size
-}
-
-fn all_fed(number: u8, consumed: usize, written: usize, port: Port, statuses: [Status; 32]) -> Fed
-    ensures { λ r. ⌜ r ≡ record { number = number; consumed = consumed; written = written; port = port; statuses = statuses } ⌝ }
-{
-    Fed {
-        number: number,
-        consumed: consumed,
-        written: written,
-        port: port,
-        statuses: statuses,
-    }
-}
-
-// Feeds the trace piece by piece, until a call gives a number or the trace ends; the counts are those of all calls.
-fn feed_pieces(
-    setup: Setup,
-    start: Port,
-    begun: [Status; 32],
-    live: &mut [u32],
-    defaults: &[u32],
-    cells: &mut [u32],
-    trace: &[u8],
-    size: usize,
-    answers: &mut [u8],
-) -> Fed
-    requires { ⌜ setup .slots ≤ 32 ⌝ }
-    ensures { λ r. ⌜ left (setup .slots) r (now (live .exit)) (now (cells .exit)) (now (answers .exit))
-        ≡ inPieces setup (now (defaults .entry)) size 0 (held start (lentOf (setup .slots) begun) (now (live .entry)) (now (cells .entry))) (now (trace .entry)) (now (answers .entry)) ⌝ }
-{
-    let mut port = start;
-    let mut phases = in_numbers(begun);
-    let places = 3 * setup.slots;
-    let mut number: u8 = 0;
-    let mut consumed: usize = 0;
-    let mut written: usize = 0;
-    while consumed < trace.len() && number == 0 {
-        let end = consumed + next_piece(size, trace.len() - consumed);
-        let fed = feed::feed_in_place(
-            setup,
-            port,
-            &mut phases[0..places],
-            &mut *live,
-            defaults,
-            &mut *cells,
-            &trace[consumed..end],
-            &mut answers[written..],
-        );
-        port = fed.port;
-        number = fed.number;
-        consumed += fed.consumed;
-        written += fed.written;
-    }
-    all_fed(number, consumed, written, port, in_statuses(phases))
-}
-
-// A device and a port with every number 0 and every bit off.
-fn zero_dev() -> Dev
-    ensures { λ r. ⌜ r ≡ freshDev ⌝ }
-{
-    Dev {
-        clock: times::nanos_of(0),
-        link: false,
-        owed: false,
-        drs_received: false,
-        control: Control {
-            visibility: false,
-            frs_interrupt: false,
-            signalling: 0,
-        },
-        queue: Queue {
-            start: 0,
-            depth: 0,
-            received: false,
-            overflow: false,
-        },
-    }
-}
-
-fn zero_port() -> Port
-    ensures { λ r. ⌜ r ≡ freshPort ⌝ }
-{
-    Port {
-        dev: zero_dev(),
-        carried: [0; 16],
-        carried_len: 0,
-        broken: false,
-    }
-}
-
-// Set-up, and then the trace in pieces; a set-up that is refused gets none of it.
-fn run_over(
-    setup: Setup,
-    live: &mut [u32],
-    defaults: &[u32],
-    cells: &mut [u32],
-    trace: &[u8],
-    size: usize,
-    answers: &mut [u8],
-) -> Fed
-    ensures { λ r. ⌜ left (setup .slots) r (now (live .exit)) (now (cells .exit)) (now (answers .exit))
-        ≡ runsOn setup (now (defaults .entry)) size (held freshPort (lentOf (setup .slots) (replicate 32 down)) (now (live .entry)) (now (cells .entry))) (now (trace .entry)) (now (answers .entry)) ⌝ }
-{
-    let made = feed::set_up(
-        setup,
-        zero_port(),
-        all_down(),
-        setup.slots,
-        &mut *live,
-        defaults,
-        &mut *cells,
-    );
-    let port = made.port;
-    let statuses = made.statuses;
-    if made.number != 0 {
-        return all_fed(made.number, 0, 0, port, statuses);
-    }
-    feed_pieces(
-        setup,
-        port,
-        statuses,
-        live,
-        defaults,
-        cells,
-        trace,
-        size,
-        answers,
-    )
 }
 
 // ---- The image

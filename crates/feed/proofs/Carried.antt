@@ -3,19 +3,19 @@
 -- Assumes nothing.
 use Prim.Native.Nat.{ℕ, _+_, _-_, _≤_, _<_}
 use mathlib.Core.Path.{_≡_, refl, ap, sym, _∙_}
-use mathlib.Core.Bool.{Bool, true, false, _&&_}
+use mathlib.Core.Bool.{true}
 use mathlib.Core.List.{List, [], _∷_, _++_}
 use native.Mathlib.Omega.{arith}
-use lib.ListN.{length, getD, take, drop, length-append, drop-of-length-le}
-use lib.Seq.{length-take-le, drop-drop, drop-at}
+use lib.ListN.{length, getD, take, drop, drop-of-length-le}
+use lib.Seq.{drop-drop, drop-at}
 use lib.Dec.{ltb}
 use borrow.Author.Tests.{ltb-true}
-use Rattle.bits.proofs.Tests.{both-left, both-right}
+use Rattle.bits.proofs.Tests.{both-right}
 use Rattle.trace.specs.Format.{Bytes, sizeOf, known, body, pad, longest, begun}
-use Rattle.trace.specs.Bench.{Device, Ran}
+use Rattle.trace.specs.Bench.{Ran}
 use Rattle.trace.specs.Feed.{Gathered as GatheredBytes, feedOpen}
-use Rattle.trace.specs.Lent.{Left, refusalOr31, leaves}
-use Rattle.trace.proofs.Records.{carrying, Complete, length-whole}
+use Rattle.trace.specs.Lent.{Left, refusalOr31}
+use Rattle.trace.proofs.Records.{carrying, length-whole}
 use Rattle.trace.proofs.Refusing.{refusal-accepted, goes-on, feeds-open}
 use Rattle.trace.proofs.Loop.{Got, got-count, begins, turns, by-gather}
 use Rattle.trace.proofs.Rejoin.{complete-itself, one-record, rejoin}
@@ -24,14 +24,16 @@ use Rattle.readiness.specs.declared.Setup.{Setup}
 use Rattle.records.specs.State.{State}
 use Rattle.records.specs.Sound.{Sound, sound}
 use Rattle.records.proofs.SoundFacts.{facts-sound}
-use Rattle.feed.specs.declared.Port.{Port}
-use Rattle.feed.specs.Held.{Held, held, opened, stateOf, carriedOf, heldOf}
-use Rattle.feed.specs.Refusals.{setUpRefusal, soundCarried, soundHeld}
-use Rattle.feed.specs.Feeding.{device, bench, feeds}
-use Rattle.feed.specs.Gathering.{WholeSize}
-use Rattle.feed.proofs.Refusals.{refusal-held}
-use Rattle.feed.proofs.Accepting.{Accepted, stops-none}
-use Rattle.feed.proofs.Running.{Good, good-keeps}
+use Rattle.records.specs.declared.Port.{Port}
+use Rattle.demand3.specs.Held.{Held, held, opened, stateOf, carriedOf, heldOf}
+use Rattle.demand3.specs.Refusals.{soundCarried}
+use Rattle.records.specs.Device.{device}
+use Rattle.demand3.specs.Feeding.{bench, feeds}
+use Rattle.gather.specs.Gathering.{WholeSize}
+use Rattle.demand3.proofs.Refusals.{refusal-held}
+use Rattle.set_up.proofs.Stopping.{stops-none}
+use Rattle.feed.proofs.Accepting.{Accepted}
+use Rattle.demand3.proofs.Good.{Good, good-keeps}
 
 -- ---- a sound state with nothing carried is accepted, where its lengths were accepted before
 opened-carried : (port : Port) → soundCarried (opened (port .dev)) ≡ true

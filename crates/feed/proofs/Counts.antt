@@ -5,7 +5,6 @@ use mathlib.Core.Path.{_≡_, refl}
 use mathlib.Core.Bool.{false}
 use mathlib.Core.List.{List, [], _∷_, _++_}
 use native.Mathlib.Omega.{arith}
-use native.Mathlib.Nat.{sub-zero}
 use lib.ListN.{length, drop, length-append, length-drop}
 use Rattle.trace.specs.Bench.{Device, Bench}
 use Rattle.trace.specs.Feed.{Fed, feedOpen}
@@ -16,8 +15,9 @@ use Rattle.trace.proofs.Refusing.{goes-on, feeds-stopped, feeds-open}
 use Rattle.trace.proofs.Laws.{Within, within}
 use Rattle.readiness.specs.declared.Setup.{Setup}
 use Rattle.records.specs.State.{State}
-use Rattle.feed.specs.Held.{Held, benchOf}
-use Rattle.feed.specs.Feeding.{device, bench, feeds}
+use Rattle.demand3.specs.Held.{Held, benchOf}
+use Rattle.records.specs.Device.{device}
+use Rattle.demand3.specs.Feeding.{bench, feeds}
 
 module _ {S : Type 0} (D : Device S) where
   abbrev AllIn : List ℕ → Fed S → Type 0

@@ -7,7 +7,7 @@ use mathlib.Core.Bool.{Bool, true, false, not, _&&_, _||_, cond}
 use mathlib.Core.List.{List, [], _∷_}
 use lib.ListN.{set}
 use lib.Dec.{ltb}
-use lib.Seq.{set-getD}
+use lib.Seq.{paste, set-getD}
 use borrow.Author.Tests.{lt-ltb}
 use Rattle.times.specs.declared.Nanos.{Nanos}
 use Rattle.times.specs.Moments.{sumOf, leastOf}
@@ -15,6 +15,7 @@ use Rattle.readiness.specs.declared.Cause.{Cause}
 use Rattle.readiness.specs.declared.Phase.{Phase}
 use Rattle.readiness.specs.declared.Phase.the-variants.{Down, Pending, Ready}
 use Rattle.readiness.specs.declared.Status.{Status}
+use Rattle.readiness.specs.declared.Slot.{Slot}
 use Rattle.readiness.specs.declared.Setup.{Setup}
 use Rattle.readiness.specs.declared.Dev.{Dev}
 use Rattle.readiness.specs.Status.{ready, allReady, entryOf}
@@ -26,16 +27,18 @@ use Rattle.frs_queue.specs.declared.Queue.{Queue}
 use Rattle.messages.specs.declared.Message.the-variants.{Frs}
 use Rattle.records.specs.declared.Record.the-variants.{Advance, Message}
 use Rattle.records.specs.declared.Reply.{Reply}
-use Rattle.records.specs.declared.Part.the-variants.{OneSlot, PortAlone, WholeCard}
-use Rattle.records.specs.declared.SlotDone.{SlotDone}
+use Rattle.records.specs.declared.Part.the-variants.{OneSlot, PortAlone}
 use Rattle.records.specs.declared.PortDone.{PortDone}
 use Rattle.records.specs.State.{State, Seat, state, statusAt, seat, kindOf}
 use Rattle.records.specs.PortRecords.{Front, front, withQueue}
-use Rattle.records.specs.Answer.{Ran}
+use Rattle.records.specs.Answer.{Ran, answerBytes}
 use Rattle.records.specs.Run.{run}
-use Rattle.records.specs.Parts.{partAt, partOf, slotRun, slotRan, portRun, cardRun}
+use Rattle.records.specs.Parts.{partAt, partOf, slotRun, portRun, cardRun}
+use Rattle.records.proofs.SoundFacts.{owed-test}
 use Rattle.records.proofs.Parted.{run-card}
-use Rattle.feed.proofs.Running.{Good, Runs, slot-runs, port-runs}
+use Rattle.records.specs.Sound.{Sound, Fitting}
+use Rattle.feed.specs.Turns.{Turned}
+use Rattle.feed.proofs.Running.{Runs, slot-runs, port-runs}
 
 -- ---- moments before which no slot becomes Ready
 -- the first moment is one
@@ -74,30 +77,33 @@ module _ (k : Setup) (defaults : List ℕ) (dev : Dev) (statuses : List Status) 
   abbrev present : State
   present = state dev statuses live cells
 
-  module _ (s₀ : State) (g : Good k defaults s₀ present) where
-    -- a record that touches one slot
-    pub one-runs : (i : ℕ) (z : Record) → r ≡ z → partOf (k .slots) z ≡ OneSlot i → (x : SlotDone) (live′ cells′ : List ℕ)
-        → slotRan x live′ cells′ ≡ slotRun (k .slots) (kindOf k i) (k .bus) (entryOf k i) defaults i z (seat dev (statusAt statuses i) live cells)
-        → Runs k defaults dev statuses live cells r (state (x .dev) (set statuses i (x .status)) live′ cells′) (x .reply)
-    one-runs i z e o x live′ cells′ y =
-        slot-runs k defaults dev statuses live cells r s₀ g i (ap (partOf (k .slots)) e ∙ o) x live′ cells′
-        (y ∙ ap (λ (z : Record). slotRun (k .slots) (kindOf k i) (k .bus) (entryOf k i) defaults i z (seat dev (statusAt statuses i) live cells)) (sym e))
+  -- what code leaves, and its answer in the slice for answers
+  pub turned-of : (t : State) (a : Reply) → Runs k defaults dev statuses live cells r t a
+      → (answers : List ℕ) (at : ℕ) (after : List ℕ) → after ≡ paste answers at (answerBytes a) 8
+      → Turned k defaults present r answers at t after
+  turned-of t a x answers at after e = record { state = x .after; answer = e ∙ ap (λ (b : Reply). paste answers at (answerBytes b) 8) (x .reply) }
 
-    -- one that leaves its status and the root port
-    pub still-runs : (i : ℕ) (z : Record) → r ≡ z → partOf (k .slots) z ≡ OneSlot i → (a : Reply) (live′ : List ℕ)
-        → _≡_ {A = Ran Seat} (slotRun (k .slots) (kindOf k i) (k .bus) (entryOf k i) defaults i z (seat dev (statusAt statuses i) live cells))
+  -- a record of one slot, with the slots, the bus number and the entry that code is told
+  pub as-told : (slots bus : ℕ) (entry : Slot) → k .slots ≡ slots → k .bus ≡ bus → (i : ℕ) → entryOf k i ≡ entry → (z : Seat)
+      → slotRun (k .slots) (kindOf k i) (k .bus) (entryOf k i) defaults i r z ≡ slotRun slots (kindOf k i) bus entry defaults i r z
+  as-told slots bus entry e b i n z = λ j. slotRun (e j) (kindOf k i) (b j) (n j) defaults i r z
+
+  module _ (sound : Sound k present) (fits : Fitting k defaults present) where
+    -- a record that touches one slot, and leaves its status and the root port
+    pub still-runs : (i : ℕ) → partOf (k .slots) r ≡ OneSlot i → (a : Reply) (live′ : List ℕ)
+        → _≡_ {A = Ran Seat} (slotRun (k .slots) (kindOf k i) (k .bus) (entryOf k i) defaults i r (seat dev (statusAt statuses i) live cells))
         (record { after = seat dev (statusAt statuses i) live′ cells; reply = a })
         → Runs k defaults dev statuses live cells r (state dev statuses live′ cells) a
-    still-runs i z e o a live′ y =
+    still-runs i o a live′ y =
         subst (λ (l : List Status). Runs k defaults dev statuses live cells r (state dev l live′ cells) a) (set-getD statuses i ready)
-        (one-runs i z e o (record { dev = dev; status = statusAt statuses i; reply = a }) live′ cells (sym y))
+        (slot-runs k defaults dev statuses live cells r sound fits i o (record { dev = dev; status = statusAt statuses i; reply = a }) live′ cells (sym y))
 
     -- an FRS that arrives by a message
     pub frs-runs : (id reason : ℕ) → r ≡ Message (Frs id reason) → (q : Queue) (a : Reply) (cells′ : List ℕ)
         → _≡_ {A = Ran Front} (portRun (k .«port_id») (Message (Frs id reason)) (front dev cells)) (record { after = front (withQueue dev q) cells′; reply = a })
         → Runs k defaults dev statuses live cells r (state (withQueue dev q) statuses live cells′) a
     frs-runs id reason e q a cells′ y =
-        port-runs k defaults dev statuses live cells r s₀ g (ap (partOf (k .slots)) e) (record { dev = withQueue dev q; reply = a }) cells′
+        port-runs k defaults dev statuses live cells r sound fits (ap (partOf (k .slots)) e) (record { dev = withQueue dev q; reply = a }) cells′
         (sym y ∙ ap (λ (z : Record). portRun (k .«port_id») z (front dev cells)) (sym e))
 
     -- an advance to a moment before which no slot becomes Ready
@@ -108,5 +114,5 @@ module _ (k : Setup) (defaults : List ℕ) (dev : Dev) (statuses : List Status) 
     clock-runs bound b by e h x c =
         let y = run-card k defaults present r (ap (partOf (k .slots)) e)
         ∙ ap (λ (z : Record). cardRun k defaults z present) e
-        ∙ c (bound-quiet bound (sumOf (dev .clock) by) statuses b h) (owed-rests (dev .owed) (dev .link) (allReady statuses) (g .kept .sound .owed)) in
+        ∙ c (bound-quiet bound (sumOf (dev .clock) by) statuses b h) (owed-rests (dev .owed) (dev .link) (allReady statuses) (owed-test sound)) in
         record { after = sym (ap (λ (z : Ran State). z .after) y); reply = sym (ap (λ (z : Ran State). z .reply) y) }

@@ -1,12 +1,12 @@
 -- What holds at the head of feed's loop, that a record's turn keeps it, and what its end gives.
 -- Assumes nothing.
 use Prim.Native.Nat.{ℕ, _+_, _-_, _≤_, _<_}
-use mathlib.Core.Path.{_≡_, ap, sym, _∙_}
+use mathlib.Core.Path.{_≡_, refl, ap, sym, _∙_}
 use mathlib.Core.Bool.{true, false}
 use mathlib.Core.List.{List, _++_}
 use native.Mathlib.Omega.{arith}
 use lib.ListN.{length, take, drop, length-append, length-drop}
-use lib.Seq.{paste, length-take-le}
+use lib.Seq.{length-take-le}
 use lib.Dec.{eqb}
 use Rattle.trace.specs.Format.{Bytes, pad, longest, begun, next}
 use Rattle.trace.specs.Feed.{Gathered as GatheredBytes, gathered}
@@ -18,14 +18,17 @@ use Rattle.readiness.specs.declared.Setup.{Setup}
 use Rattle.readiness.specs.declared.Dev.{Dev}
 use Rattle.records.specs.declared.Record.{Record}
 use Rattle.records.specs.declared.Record.the-variants.{Advance, Read, Write, Message, LinkUp, LinkDown, ColdReset, ReadQueue, RemoveOldest, ClearBits, Control, HardwareSet, ReadBits, NoKind}
-use Rattle.records.specs.declared.Reply.{Reply}
 use Rattle.records.specs.State.{State, state}
 use Rattle.records.specs.Decode.{decode}
 use Rattle.records.specs.Answer.{answerBytes}
-use Rattle.feed.specs.Held.{Held, held, stateOf, carriedOf}
-use Rattle.feed.specs.Gathering.{recordSize, NextRecord}
-use Rattle.feed.specs.Feeding.{device, bench, feeds}
-use Rattle.feed.proofs.Running.{Good, good-keeps, ran-bytes, Runs}
+use Rattle.records.specs.Run.{run}
+use Rattle.demand3.specs.Held.{Held, held, stateOf, carriedOf}
+use Rattle.gather.specs.Gathering.{recordSize, NextRecord}
+use Rattle.feed.specs.Turns.{TakesTurn}
+use Rattle.records.specs.Device.{device}
+use Rattle.demand3.specs.Feeding.{bench, feeds}
+use Rattle.demand3.proofs.Good.{Good, good-keeps}
+use Rattle.feed.proofs.Running.{ran-bytes}
 
 -- ---- the record that code reads
 -- no record has more than 17 bytes
@@ -125,19 +128,20 @@ module _ {k : Setup} {defaults : List ℕ} {carried : List ℕ} {len : ℕ} {inp
 
   -- A RECORD'S TURN
   pub turned : (g : GatheredBytes) → Turning g → (r : Record) → r ≡ decode (g .bytes)
-      → (dev′ : Dev) (statuses′ : List Status) (live′ cells′ : List ℕ) (reply : Reply)
-      → Runs k defaults dev statuses live cells r (state dev′ statuses′ live′ cells′) reply
-      → (answers′ : List ℕ) → answers′ ≡ paste answers w (answerBytes reply) 8
+      → (dev′ : Dev) (statuses′ : List Status) (live′ cells′ answers′ : List ℕ)
+      → TakesTurn k defaults present r answers w (state dev′ statuses′ live′ cells′) answers′
       → Head k defaults carried len input room s₀ answers′ dev′ statuses′ live′ cells′ (at + g .count) (w + 8)
-  turned g t r d dev′ statuses′ live′ cells′ reply x answers′ a =
+  turned g t r d dev′ statuses′ live′ cells′ answers′ x =
+      let y = x (v .inv .good .kept .sound) (v .inv .good .kept .fits) in
+      let answer = answerBytes (run k defaults present r .reply) in
       record {
         slots = v .slots;
         short = v .short;
         long = v .long;
-        inv = rw a
+        inv = rw (y .answer)
             (turns (bench k defaults) (Good k defaults s₀) (good-keeps k defaults s₀) s₀ (take len carried) input room answers present at w (v .inv) g (t .got)
-            (record { dev = state dev′ statuses′ live′ cells′; answer = answerBytes reply })
-            (ran-bytes k defaults present (state dev′ statuses′ live′ cells′) (answerBytes reply) r (g .bytes) (t .got .whole) d (t .got .bytes) (x .after) (ap answerBytes (x .reply)))
+            (record { dev = state dev′ statuses′ live′ cells′; answer = answer })
+            (ran-bytes k defaults present (state dev′ statuses′ live′ cells′) answer r (g .bytes) (t .got .whole) d (t .got .bytes) (y .state) refl)
             (t .space));
       }
 

@@ -1,13 +1,11 @@
--- A record of a call's trace: what is good, that a record keeps it, and each part of the state as code runs it.
+-- A record of a call's trace: each part of the state as code runs it.
 -- Assumes nothing.
-use Prim.Native.Nat.{ℕ, _-_}
+use Prim.Native.Nat.{ℕ}
 use mathlib.Core.Path.{_≡_, ap, sym, _∙_}
 use mathlib.Core.List.{List}
-use lib.ListN.{length, set}
+use lib.ListN.{set}
 use Rattle.trace.specs.Format.{pad, longest}
 use Rattle.trace.specs.Bench.{Ran as RanBytes}
-use Rattle.trace.specs.Claim.{RunKeeps}
-use Rattle.trace.proofs.Lists.{byte-at}
 use Rattle.readiness.specs.declared.Status.{Status}
 use Rattle.readiness.specs.declared.Setup.{Setup}
 use Rattle.readiness.specs.declared.Dev.{Dev}
@@ -22,21 +20,10 @@ use Rattle.records.specs.Decode.{decode}
 use Rattle.records.specs.Answer.{Ran, answerBytes}
 use Rattle.records.specs.PortRecords.{front}
 use Rattle.records.specs.Run.{run}
+use Rattle.records.specs.Sound.{Sound, Fitting}
 use Rattle.records.specs.Parts.{partOf, slotRun, slotRan, slotPut, portRun, portRan, portPut, cardRun, cardRan}
-use Rattle.records.proofs.Kept.{SoundSetup, Keeps}
-use Rattle.records.proofs.Keeping.{bytes-keep, bytes-padded}
 use Rattle.records.proofs.Parted.{run-slot, run-port, run-card}
-use Rattle.feed.specs.Feeding.{inBytes, device}
-
--- ---- what is good: a set-up that is sound, and a state that keeps what the call began with
-pub record Good (k : Setup) (defaults : List ℕ) (s₀ s : State) : Type 0 where
-  pub setup : SoundSetup k
-  pub kept : Keeps k defaults s₀ s
-
-pub good-keeps : (k : Setup) (defaults : List ℕ) (s₀ : State) → RunKeeps (device k defaults) (Good k defaults s₀)
-unfolding inBytes
-good-keeps k defaults s₀ s r e b g =
-    record { setup = g .setup; kept = bytes-keep k defaults s₀ s (g .setup) (g .kept) (pad longest r) (bytes-padded r (longest - length r) (λ i. byte-at r i b)) }
+use Rattle.records.specs.Device.{inBytes, device}
 
 -- ---- a record by its bytes
 -- the state after a record, and its answer's bytes, are what the device makes of the record's bytes
@@ -66,16 +53,16 @@ module _ (k : Setup) (defaults : List ℕ) (dev : Dev) (statuses : List Status) 
       → Runs (state (x .dev) statuses′ live′ cells′) (x .reply)
   card-runs q x statuses′ live′ cells′ e = runs-of _ _ (e ∙ sym (run-card k defaults present r q))
 
-  module _ (s₀ : State) (g : Good k defaults s₀ present) where
+  module _ (sound : Sound k present) (fits : Fitting k defaults present) where
     -- the port alone
     pub port-runs : partOf (k .slots) r ≡ PortAlone → (x : PortDone) (cells′ : List ℕ) → portRan x cells′ ≡ portRun (k .«port_id») r (front dev cells)
         → Runs (state (x .dev) statuses live cells′) (x .reply)
     port-runs q x cells′ e =
-        runs-of _ _ (ap (portPut present) e ∙ sym (run-port k defaults present (g .kept .sound) (g .kept .fits) r q))
+        runs-of _ _ (ap (portPut present) e ∙ sym (run-port k defaults present sound fits r q))
 
     -- one slot
     pub slot-runs : (i : ℕ) → partOf (k .slots) r ≡ OneSlot i → (x : SlotDone) (live′ cells′ : List ℕ)
         → slotRan x live′ cells′ ≡ slotRun (k .slots) (kindOf k i) (k .bus) (entryOf k i) defaults i r (seat dev (statusAt statuses i) live cells)
         → Runs (state (x .dev) (set statuses i (x .status)) live′ cells′) (x .reply)
     slot-runs i q x live′ cells′ e =
-        runs-of _ _ (ap (slotPut present i) e ∙ sym (run-slot k defaults present (g .kept .sound) (g .kept .fits) r i q))
+        runs-of _ _ (ap (slotPut present i) e ∙ sym (run-slot k defaults present sound fits r i q))

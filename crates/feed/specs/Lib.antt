@@ -1,7 +1,2 @@
-pub mod Held
-pub mod Refusals
-pub mod SettingUp
-pub mod Feeding
-pub mod Gathering
+pub mod Left
 pub mod Turns
-pub mod Claim

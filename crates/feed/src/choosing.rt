@@ -9,7 +9,7 @@ ghost use Prim.Native.Nat.{ℕ, _<_};
 ghost use Rattle.times.specs.declared.Nanos.{Nanos};
 ghost use Rattle.records.specs.declared.Record.the-variants as variants;
 ghost use Rattle.feed.specs.Turns.{Takes};
-ghost use Rattle.feed.specs.Gathering.{recordSize};
+ghost use Rattle.gather.specs.Gathering.{recordSize};
 use crate::Turn;
 use frs_queue::Frs;
 use messages::Message;
@@ -20,7 +20,7 @@ use records::Request;
 use times::Nanos;
 
 // A read of a slot that there is not touches nothing.
-fn read_turn(slots: usize, q: Request) -> Turn
+fn of_read(slots: usize, q: Request) -> Turn
     ensures { λ r. ⌜ ((earliest clock : Nanos) (link : Bool) → Takes slots earliest clock link (variants.Read q) r) ⌝ }
 {
     if q.slot < slots {
@@ -31,7 +31,7 @@ fn read_turn(slots: usize, q: Request) -> Turn
 }
 
 // So does a write.
-fn write_turn(slots: usize, q: Request, value: u32) -> Turn
+fn of_write(slots: usize, q: Request, value: u32) -> Turn
     ensures { λ r. ⌜ ((earliest clock : Nanos) (link : Bool) → Takes slots earliest clock link (variants.Write q value) r) ⌝ }
 {
     if q.slot < slots {
@@ -42,7 +42,7 @@ fn write_turn(slots: usize, q: Request, value: u32) -> Turn
 }
 
 // So does a hardware set.
-fn hardware_turn(slots: usize, slot: usize, word: usize, mask: u32) -> Turn
+fn of_hardware(slots: usize, slot: usize, word: usize, mask: u32) -> Turn
     ensures { λ r. ⌜ ((earliest clock : Nanos) (link : Bool) → Takes slots earliest clock link (variants.HardwareSet slot word mask) r) ⌝ }
 {
     if slot < slots {
@@ -53,7 +53,7 @@ fn hardware_turn(slots: usize, slot: usize, word: usize, mask: u32) -> Turn
 }
 
 // No slot becomes Ready before `earliest`.
-fn clock_turn(earliest: Nanos, clock: Nanos, by: Nanos) -> Turn
+fn of_advance(earliest: Nanos, clock: Nanos, by: Nanos) -> Turn
     ensures { λ r. ⌜ ((slots : ℕ) (link : Bool) → Takes slots earliest clock link (variants.Advance by) r) ⌝ }
 {
     if times::earlier(times::sum(clock, by), earliest) {
@@ -64,7 +64,7 @@ fn clock_turn(earliest: Nanos, clock: Nanos, by: Nanos) -> Turn
 }
 
 // An FRS that comes with the link up goes to the queue alone.
-fn message_turn(link: bool, message: Message) -> Turn
+fn of_message(link: bool, message: Message) -> Turn
     ensures { λ r. ⌜ ((slots : ℕ) (earliest clock : Nanos) → Takes slots earliest clock link (variants.Message message) r) ⌝ }
 {
     match message {
@@ -87,10 +87,10 @@ pub fn turn_of(slots: usize, earliest: Nanos, clock: Nanos, link: bool, record: 
     ensures { λ r. ⌜ Takes slots earliest clock link «record» r ⌝ }
 {
     match record {
-        Record::Advance(by) => clock_turn(earliest, clock, by),
-        Record::Read(q) => read_turn(slots, q),
-        Record::Write(q, value) => write_turn(slots, q, value),
-        Record::Message(message) => message_turn(link, message),
+        Record::Advance(by) => of_advance(earliest, clock, by),
+        Record::Read(q) => of_read(slots, q),
+        Record::Write(q, value) => of_write(slots, q, value),
+        Record::Message(message) => of_message(link, message),
         Record::LinkUp => Turn::Card,
         Record::LinkDown => Turn::Card,
         Record::ColdReset => Turn::Card,
@@ -98,7 +98,7 @@ pub fn turn_of(slots: usize, earliest: Nanos, clock: Nanos, link: bool, record: 
         Record::RemoveOldest => Turn::Port,
         Record::ClearBits(_) => Turn::Port,
         Record::Control(_) => Turn::Port,
-        Record::HardwareSet(slot, word, mask) => hardware_turn(slots, slot, word, mask),
+        Record::HardwareSet(slot, word, mask) => of_hardware(slots, slot, word, mask),
         Record::ReadBits => Turn::Port,
         Record::NoKind => Turn::End,
     }

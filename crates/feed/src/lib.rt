@@ -1,14 +1,10 @@
-// Set-up and feed by value over the lent slices: refusals, records gathered from the trace, answers.
-mod refusing; // refusals 1 to 4, and the carried bytes' part of 5
-mod gathering; // records from a call's trace, answers, and the bytes carried
-mod reading; // a record's fields, read where they stand in the input
+// Feed by value over the lent slices: each whole record of a call's trace runs in its turn.
 mod choosing; // how a record takes its turn
-mod lending; // what a set-up starts with
-mod turning; // a record's turn on the root port or the whole card, and its answer
+mod turning; // a record's turn, and its answer
 
 ghost use mathlib.Core.Path.{_≡_};
 ghost use mathlib.Core.Bool.{false};
-ghost use mathlib.Core.List.{_++_};
+ghost use mathlib.Core.List.{List, _++_};
 ghost use Prim.Native.Nat.{ℕ, _+_, _-_, _≤_, _<_};
 ghost use lib.Dec.{eqb};
 ghost use lib.ListN.{length, take};
@@ -16,58 +12,39 @@ ghost use Rattle.trace.specs.Format.{pad, next};
 ghost use Rattle.trace.specs.Feed.{gathered};
 ghost use Rattle.trace.specs.Lent.{refusalOr31};
 ghost use Rattle.readiness.specs.Phases.{statusesIn};
-ghost use Rattle.feed.specs.Held.{held, lentOf, carriedOf, opened};
-ghost use Rattle.feed.specs.Gathering.{WholeSize, carriesOn};
-ghost use Rattle.feed.specs.SettingUp.{setsUp, prepared};
-ghost use Rattle.feed.specs.Feeding.{bench, feeds, left, leftInPlace};
-use choosing::lowered;
+ghost use Rattle.demand3.specs.Held.{held, lentOf, carriedOf, opened};
+ghost use Rattle.gather.specs.Gathering.{WholeSize};
+ghost use Rattle.registers.specs.Rows.{masks};
+ghost use Rattle.demand3.specs.Feeding.{bench, feeds};
+ghost use Rattle.feed.specs.Left.{left, leftInPlace, carriesOn, Opens, Rests};
 use choosing::record_size;
 use choosing::turn_of;
-use device::card::advance_alone;
-use device::port::receive_frs;
-use device::requests::run_hardware;
-use device::requests::run_read;
-use device::requests::run_write;
 use frs_queue::Frs;
-use gathering::carried_bytes;
-use gathering::copy;
-use gathering::ending;
-use gathering::gather;
-use gathering::keep;
-use gathering::next_record;
-use gathering::whole_size;
-use lending::clear_cells;
-use lending::fresh_port;
+use gather::Gathered;
+use gather::gathering::carried_bytes;
+use gather::gathering::copy;
+use gather::gathering::ending;
+use gather::gathering::gather;
+use gather::gathering::keep;
+use gather::gathering::next_record;
+use gather::gathering::whole_size;
 use readiness::Dev;
 use readiness::Setup;
 use readiness::Status;
-use readiness::phases::in_numbers;
-use readiness::phases::in_statuses;
-use readiness::phases::put_status;
-use readiness::phases::status_at;
+use records::Port;
 use records::Request;
-use refusing::refusal;
-use refusing::set_up_refusal;
-use registers::Kind;
+use registers::Masks;
+use set_up::refusing::refusal;
+use settle::phases::in_numbers;
+use settle::phases::in_statuses;
 use times::Nanos;
-use turning::answer;
 use turning::card_turn;
+use turning::clock_turn;
+use turning::frs_turn;
+use turning::hardware_turn;
 use turning::port_turn;
-
-// The port state: the device's part, the bytes of an incomplete record, how many they are, and whether the trace is broken.
-pub struct Port {
-    pub dev: Dev,
-    pub carried: [u8; 16],
-    pub carried_len: usize,
-    pub broken: bool,
-}
-
-// What set-up gives, beside the lent slices.
-pub struct SetUp {
-    pub number: u8,
-    pub port: Port,
-    pub statuses: [Status; 32],
-}
+use turning::read_turn;
+use turning::write_turn;
 
 // What feed gives, beside the lent slices.
 pub struct Fed {
@@ -86,19 +63,10 @@ pub struct FedPort {
     pub port: Port,
 }
 
-// What stands next in a call's trace: a record to run, `count` bytes with zeros after them; or the call's end, with its number, and
-// the first `count` bytes are carried.
-pub struct Gathered {
-    pub runs: bool,
+// How a call begins: the number for which it is refused, or 0; and the size of the first record that it completes, 0 if there is none.
+pub struct Opening {
     pub number: u8,
-    pub bytes: [u8; 17],
-    pub count: usize,
-}
-
-// The end of a call: its number, and how many bytes are carried.
-pub struct Ending {
-    pub number: u8,
-    pub count: usize,
+    pub size: usize,
 }
 
 // How a record takes its turn.
@@ -121,35 +89,6 @@ pub enum Turn {
     End,
 }
 
-// Set-up: a refusal changes nothing.
-pub fn set_up(
-    setup: Setup,
-    port: Port,
-    statuses: [Status; 32],
-    lent: usize,
-    live: &mut [u32],
-    defaults: &[u32],
-    cells: &mut [u32],
-) -> SetUp
-    ensures { λ r. ⌜ prepared lent r (now (live .exit)) (now (cells .exit)) ≡ setsUp setup (now (defaults .entry)) (held port (lentOf lent statuses) (now (live .entry)) (now (cells .entry))) ⌝ }
-{
-    let no = set_up_refusal(setup, lent, live.len(), defaults, cells.len());
-    if no != 0 {
-        return SetUp {
-            number: no,
-            port: port,
-            statuses: statuses,
-        };
-    }
-    registers::cold_reset(live, defaults);
-    clear_cells(cells);
-    SetUp {
-        number: 0,
-        port: fresh_port(),
-        statuses: readiness::reset_statuses(setup, statuses),
-    }
-}
-
 // The call's end: the first bytes of what was gathered are carried.
 fn call_end(dev: Dev, g: Gathered, consumed: usize, written: usize) -> FedPort
     requires { ⌜ g .count ≤ 16 ⌝ }
@@ -167,6 +106,7 @@ fn call_end(dev: Dev, g: Gathered, consumed: usize, written: usize) -> FedPort
 // A call that is not refused, with nothing carried: each whole record runs in its turn, until the input ends, a kind is unknown or the room is
 // too small.
 fn run_input(
+    table: &Masks,
     setup: Setup,
     start: Dev,
     phases: &mut [u64],
@@ -176,6 +116,7 @@ fn run_input(
     input: &[u8],
     answers: &mut [u8],
 ) -> FedPort
+    requires { ⌜ now table ≡ masks ⌝ }
     requires { ⌜ refusalOr31 (bench setup (now defaults)) (held (opened start) (statusesIn (now phases)) (now live) (now cells)) ≡ 0 ⌝ }
     ensures { λ r. ⌜ leftInPlace r (now (phases .exit)) (now (live .exit)) (now (cells .exit)) (now (answers .exit)) ≡ feeds setup (now (defaults .entry)) (held (opened start) (statusesIn (now (phases .entry))) (now (live .entry)) (now (cells .entry))) (now (input .entry)) (now (answers .entry)) ⌝ }
 {
@@ -191,65 +132,49 @@ fn run_input(
         let more = w + 8;
         match turn {
             Turn::Read(q) => {
-                let slot = q.slot;
-                let status = status_at(phases, slot);
-                let reply = run_read(setup.slots, Kind::Endpoint, dev, status, live, q);
-                answer(answers, w, reply);
+                read_turn(setup.slots, dev, phases, live, q, answers, w);
             }
             Turn::Write(q, value) => {
                 let slot = q.slot;
                 let entry = setup.entries[slot];
-                let status = status_at(phases, slot);
-                let x = run_write(
+                let x = write_turn(
+                    table,
                     setup.slots,
-                    Kind::Endpoint,
                     setup.bus,
                     entry,
-                    slot,
                     dev,
-                    status,
+                    earliest,
+                    phases,
                     live,
                     defaults,
                     cells,
                     q,
                     value,
+                    answers,
+                    w,
                 );
-                answer(answers, w, x.reply);
-                let after = x.status;
-                put_status(phases, slot, after);
                 dev = x.dev;
-                earliest = lowered(earliest, after);
+                earliest = x.earliest;
             }
             Turn::Hardware(slot, word, mask) => {
-                let status = status_at(phases, slot);
-                let reply = run_hardware(
+                hardware_turn(
+                    table,
                     setup.slots,
-                    Kind::Endpoint,
-                    status,
+                    phases,
                     live,
                     slot,
                     word,
                     mask,
+                    answers,
+                    w,
                 );
-                answer(answers, w, reply);
             }
-            Turn::Port => {
-                let x = port_turn(setup.port_id, dev, record, cells, answers, w);
-                dev = x.dev;
-            }
-            Turn::Frs(frs) => {
-                let x = receive_frs(dev, cells, frs);
-                answer(answers, w, x.reply);
-                let queue = x.queue;
-                dev.queue = queue;
-            }
-            Turn::Clock(by) => {
-                let x = advance_alone(dev, by);
-                answer(answers, w, x.reply);
-                dev = x.dev;
-            }
+            Turn::Port => dev = port_turn(setup.port_id, dev, record, cells, answers, w),
+            Turn::Frs(frs) => dev = frs_turn(dev, cells, frs, answers, w),
+            Turn::Clock(by) => dev = clock_turn(dev, by, answers, w),
             Turn::Card => {
                 let x = card_turn(
+                    table,
                     setup,
                     dev,
                     phases,
@@ -261,7 +186,7 @@ fn run_input(
                     w,
                 );
                 dev = x.dev;
-                earliest = readiness::earliest_ready(setup.slots, phases);
+                earliest = x.earliest;
             }
             Turn::End => {
                 let g = gather(input, 0, input, at, room);
@@ -318,6 +243,7 @@ fn after_first(consumed: usize, written: usize, rest: FedPort) -> FedPort
 
 // A call that is not refused, with bytes carried that begin a record of `size` bytes, which is whole now: that record, and then the rest of the input.
 fn run_joined(
+    table: &Masks,
     setup: Setup,
     port: Port,
     size: usize,
@@ -328,6 +254,7 @@ fn run_joined(
     input: &[u8],
     answers: &mut [u8],
 ) -> FedPort
+    requires { ⌜ now table ≡ masks ⌝ }
     requires { ⌜ refusalOr31 (bench setup (now defaults)) (held port (statusesIn (now phases)) (now live) (now cells)) ≡ 0 ⌝ }
     requires { ⌜ (0 < size) × WholeSize (carriedOf port ++ now input) (length (now answers)) size ⌝ }
     ensures { λ r. ⌜ leftInPlace r (now (phases .exit)) (now (live .exit)) (now (cells .exit)) (now (answers .exit)) ≡ feeds setup (now (defaults .entry)) (held port (statusesIn (now (phases .entry))) (now (live .entry)) (now (cells .entry))) (now (input .entry)) (now (answers .entry)) ⌝ }
@@ -338,6 +265,7 @@ fn run_joined(
     let bytes = copy(&carried, len, input, 0, size);
     let missing = size - len;
     let first = run_input(
+        table,
         setup,
         dev,
         &mut *phases,
@@ -357,6 +285,7 @@ fn run_joined(
         };
     }
     let rest = run_input(
+        table,
         setup,
         between.dev,
         phases,
@@ -369,7 +298,139 @@ fn run_joined(
     after_first(missing, 8, rest)
 }
 
-// Feed where the statuses are numbers, three to a slot, which are changed in place: a refusal changes nothing.
+// A call that is not refused and completes a record, of `size` bytes.
+fn run_records(
+    table: &Masks,
+    setup: Setup,
+    port: Port,
+    size: usize,
+    phases: &mut [u64],
+    live: &mut [u32],
+    defaults: &[u32],
+    cells: &mut [u32],
+    input: &[u8],
+    answers: &mut [u8],
+) -> FedPort
+    requires { ⌜ now table ≡ masks ⌝ }
+    requires { ⌜ refusalOr31 (bench setup (now defaults)) (held port (statusesIn (now phases)) (now live) (now cells)) ≡ 0 ⌝ }
+    requires { ⌜ (0 < size) × WholeSize (carriedOf port ++ now input) (length (now answers)) size ⌝ }
+    ensures { λ r. ⌜ leftInPlace r (now (phases .exit)) (now (live .exit)) (now (cells .exit)) (now (answers .exit)) ≡ feeds setup (now (defaults .entry)) (held port (statusesIn (now (phases .entry))) (now (live .entry)) (now (cells .entry))) (now (input .entry)) (now (answers .entry)) ⌝ }
+{
+    if port.carried_len == 0 {
+        let dev = port.dev;
+        return run_input(
+            table,
+            setup,
+            dev,
+            phases,
+            live,
+            defaults,
+            cells,
+            input,
+            answers,
+        );
+    }
+    run_joined(
+        table,
+        setup,
+        port,
+        size,
+        phases,
+        live,
+        defaults,
+        cells,
+        input,
+        answers,
+    )
+}
+
+// How a call begins.
+fn opens(
+    setup: Setup,
+    port: Port,
+    phases: &[u64],
+    words: usize,
+    defaults: &[u32],
+    cells: &[u32],
+    input: &[u8],
+    room: usize,
+) -> Opening
+    ensures { λ r. ⌜ ((live : List ℕ) → length live ≡ words → Opens setup (now (defaults .entry)) (held port (statusesIn (now (phases .entry))) live (now (cells .entry))) (now (input .entry)) room r) ⌝ }
+{
+    let no = refusal(setup, port, phases, words, defaults, cells);
+    if no != 0 {
+        return Opening {
+            number: no,
+            size: 0,
+        };
+    }
+    let len = port.carried_len;
+    let carried = port.carried;
+    Opening {
+        number: 0,
+        size: whole_size(&carried, len, input, 0, room),
+    }
+}
+
+// A call that runs no record: it is refused, or what is consumed of the input joins the carried bytes.
+fn rests(number: u8, port: Port, input: &[u8]) -> FedPort
+    requires { ⌜ (number ≡ 0 → port .«carried_len» ≤ 16) ⌝ }
+    ensures { λ r. ⌜ Rests number port (now (input .entry)) r ⌝ }
+{
+    if number == 0 {
+        return carry_on(port, input);
+    }
+    FedPort {
+        number: number,
+        consumed: 0,
+        written: 0,
+        port: port,
+    }
+}
+
+// Feed with the table of masks lent, where the statuses are numbers, three to a slot, which are changed in place: a refusal changes nothing.
+pub fn feed_lent(
+    table: &Masks,
+    setup: Setup,
+    port: Port,
+    phases: &mut [u64],
+    live: &mut [u32],
+    defaults: &[u32],
+    cells: &mut [u32],
+    input: &[u8],
+    answers: &mut [u8],
+) -> FedPort
+    requires { ⌜ now table ≡ masks ⌝ }
+    ensures { λ r. ⌜ leftInPlace r (now (phases .exit)) (now (live .exit)) (now (cells .exit)) (now (answers .exit)) ≡ feeds setup (now (defaults .entry)) (held port (statusesIn (now (phases .entry))) (now (live .entry)) (now (cells .entry))) (now (input .entry)) (now (answers .entry)) ⌝ }
+{
+    let o = opens(
+        setup,
+        port,
+        phases,
+        live.len(),
+        defaults,
+        cells,
+        input,
+        answers.len(),
+    );
+    if o.size == 0 {
+        return rests(o.number, port, input);
+    }
+    run_records(
+        table,
+        setup,
+        port,
+        o.size,
+        phases,
+        live,
+        defaults,
+        cells,
+        input,
+        answers,
+    )
+}
+
+// The same with a copy of the table of its own, which is made only if a record runs.
 pub fn feed_in_place(
     setup: Setup,
     port: Port,
@@ -382,30 +443,25 @@ pub fn feed_in_place(
 ) -> FedPort
     ensures { λ r. ⌜ leftInPlace r (now (phases .exit)) (now (live .exit)) (now (cells .exit)) (now (answers .exit)) ≡ feeds setup (now (defaults .entry)) (held port (statusesIn (now (phases .entry))) (now (live .entry)) (now (cells .entry))) (now (input .entry)) (now (answers .entry)) ⌝ }
 {
-    let no = refusal(setup, port, phases, live.len(), defaults, cells);
-    if no != 0 {
-        return FedPort {
-            number: no,
-            consumed: 0,
-            written: 0,
-            port: port,
-        };
-    }
-    let len = port.carried_len;
-    if len == 0 {
-        let dev = port.dev;
-        return run_input(setup, dev, phases, live, defaults, cells, input, answers);
-    }
-    let room = answers.len();
-    let carried = port.carried;
-    let size = whole_size(&carried, len, input, 0, room);
-    if size == 0 {
-        return carry_on(port, input);
-    }
-    run_joined(
+    let o = opens(
         setup,
         port,
-        size,
+        phases,
+        live.len(),
+        defaults,
+        cells,
+        input,
+        answers.len(),
+    );
+    if o.size == 0 {
+        return rests(o.number, port, input);
+    }
+    let table = registers::attributes();
+    run_records(
+        &table,
+        setup,
+        port,
+        o.size,
         phases,
         live,
         defaults,

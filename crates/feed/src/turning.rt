@@ -1,31 +1,166 @@
-// A record's turn on the root port or on the whole card: it runs, and its answer is put.
+// A record's turn: it runs on the part of the state that it touches, and its answer is put. In a sound state what a turn leaves, and the answer,
+// are those of the record's run.
 ghost use mathlib.Core.Path.{_≡_};
-ghost use Prim.Native.Nat.{_+_, _≤_};
+ghost use mathlib.Core.Bool.{true};
+ghost use mathlib.Core.List.{List};
+ghost use Prim.Native.Nat.{ℕ, _+_, _*_, _≤_, _<_};
 ghost use lib.ListN.{length};
 ghost use lib.Seq.{paste};
+ghost use Rattle.times.specs.declared.Nanos.{Nanos};
+ghost use Rattle.times.specs.Moments.{sumOf};
+ghost use Rattle.messages.specs.declared.Message.the-variants as message;
+ghost use Rattle.registers.specs.Rows.{masks};
+ghost use Rattle.readiness.specs.declared.Status.{Status};
+ghost use Rattle.readiness.specs.declared.Setup.{Setup};
+ghost use Rattle.readiness.specs.declared.Dev.{Dev};
+ghost use Rattle.readiness.specs.Status.{entryOf};
 ghost use Rattle.readiness.specs.Phases.{statusesIn};
+ghost use Rattle.readiness.specs.Earliest.{ReadyFrom};
+ghost use Rattle.records.specs.declared.Record.the-variants as variants;
+ghost use Rattle.records.specs.declared.Part.the-variants.{PortAlone, WholeCard};
 ghost use Rattle.records.specs.State.{state};
 ghost use Rattle.records.specs.Answer.{answerBytes};
-ghost use Rattle.records.specs.PortRecords.{front};
-ghost use Rattle.records.specs.Parts.{portRan, portRun, cardRan, cardRun};
-use crate::gathering::put;
+ghost use Rattle.records.specs.Parts.{partOf};
+ghost use Rattle.feed.specs.Turns.{TakesTurn};
+use crate::choosing::lowered;
 use device::answering::answer_bytes;
+use device::card::advance_alone;
 use device::card::run_card;
+use device::port::receive_frs;
 use device::port::run_port;
+use device::requests::run_hardware;
+use device::requests::run_read;
+use device::requests::run_write;
+use frs_queue::Frs;
+use gather::gathering::put;
 use readiness::Dev;
 use readiness::Setup;
-use records::PortDone;
+use readiness::Slot;
 use records::Record;
 use records::Reply;
+use records::Request;
+use registers::Kind;
+use registers::Masks;
+use settle::phases::put_status;
+use settle::phases::status_at;
+use times::Nanos;
+
+// What a turn leaves that can start a slot: the device, and a moment before which no slot becomes Ready.
+pub struct Moved {
+    pub dev: Dev,
+    pub earliest: Nanos,
+}
 
 // The answer's 8 bytes go to `answers`, from `at` on.
-pub fn answer(answers: &mut [u8], at: usize, reply: Reply)
+fn answer(answers: &mut [u8], at: usize, reply: Reply)
     requires { ⌜ at + 8 ≤ length (now answers) ⌝ }
     ensures { λ _. ⌜ now (answers .exit) ≡ paste (now (answers .entry)) at (answerBytes reply) 8 ⌝ }
 {
     put(answers, at, answer_bytes(reply));
 }
 
+// A configuration read of a slot of the card.
+pub fn read_turn(
+    slots: usize,
+    dev: Dev,
+    phases: &[u64],
+    live: &[u32],
+    q: Request,
+    answers: &mut [u8],
+    at: usize,
+)
+    requires { ⌜ (q .slot < length (statusesIn (now phases))) × (64 * slots ≤ length (now live)) × (at + 8 ≤ length (now answers)) ⌝ }
+    ensures { λ _. ⌜ ((setup : Setup) (defaults cells : List ℕ) → setup .slots ≡ slots → q .slot < slots
+        → TakesTurn setup defaults (state dev (statusesIn (now (phases .entry))) (now (live .entry)) cells) (variants.Read q) (now (answers .entry)) at
+        (state dev (statusesIn (now (phases .entry))) (now (live .entry)) cells) (now (answers .exit))) ⌝ }
+{
+    let slot = q.slot;
+    let status = status_at(phases, slot);
+    answer(
+        answers,
+        at,
+        run_read(slots, Kind::Endpoint, dev, status, live, q),
+    );
+}
+
+// A configuration write of a slot of the card.
+pub fn write_turn(
+    table: &Masks,
+    slots: usize,
+    bus: u8,
+    entry: Slot,
+    dev: Dev,
+    earliest: Nanos,
+    phases: &mut [u64],
+    live: &mut [u32],
+    defaults: &[u32],
+    cells: &mut [u32],
+    q: Request,
+    value: u32,
+    answers: &mut [u8],
+    at: usize,
+) -> Moved
+    requires { ⌜ now table ≡ masks ⌝ }
+    requires { ⌜ (q .slot < 32) × (q .slot < length (statusesIn (now phases))) × (64 * slots ≤ length (now live)) × (64 * slots ≤ length (now defaults)) × (at + 8 ≤ length (now answers)) ⌝ }
+    ensures { λ r. ⌜ ((setup : Setup) → setup .slots ≡ slots → setup .bus ≡ bus → entryOf setup (q .slot) ≡ entry → q .slot < slots
+        → TakesTurn setup (now (defaults .entry)) (state dev (statusesIn (now (phases .entry))) (now (live .entry)) (now (cells .entry))) (variants.Write q value) (now (answers .entry)) at
+        (state (r .dev) (statusesIn (now (phases .exit))) (now (live .exit)) (now (cells .exit))) (now (answers .exit))) ⌝ }
+    ensures { λ r. ⌜ (ReadyFrom earliest (statusesIn (now (phases .entry))) → ReadyFrom (r .earliest) (statusesIn (now (phases .exit)))) ⌝ }
+{
+    let slot = q.slot;
+    let status = status_at(phases, slot);
+    let x = run_write(
+        table,
+        slots,
+        Kind::Endpoint,
+        bus,
+        entry,
+        slot,
+        dev,
+        status,
+        live,
+        defaults,
+        cells,
+        q,
+        value,
+    );
+    answer(answers, at, x.reply);
+    let after = x.status;
+    put_status(phases, slot, after);
+    let moved = x.dev;
+    Moved {
+        dev: moved,
+        earliest: lowered(earliest, after),
+    }
+}
+
+// Hardware sets bits of a word of a slot of the card.
+pub fn hardware_turn(
+    table: &Masks,
+    slots: usize,
+    phases: &[u64],
+    live: &mut [u32],
+    slot: usize,
+    word: usize,
+    mask: u32,
+    answers: &mut [u8],
+    at: usize,
+)
+    requires { ⌜ now table ≡ masks ⌝ }
+    requires { ⌜ (slot < length (statusesIn (now phases))) × (64 * slots ≤ length (now live)) × (at + 8 ≤ length (now answers)) ⌝ }
+    ensures { λ _. ⌜ ((setup : Setup) (defaults : List ℕ) (dev : Dev) (cells : List ℕ) → setup .slots ≡ slots → slot < slots
+        → TakesTurn setup defaults (state dev (statusesIn (now (phases .entry))) (now (live .entry)) cells) (variants.HardwareSet slot word mask) (now (answers .entry)) at
+        (state dev (statusesIn (now (phases .entry))) (now (live .exit)) cells) (now (answers .exit))) ⌝ }
+{
+    let status = status_at(phases, slot);
+    answer(
+        answers,
+        at,
+        run_hardware(table, slots, Kind::Endpoint, status, live, slot, word, mask),
+    );
+}
+
+// A record that touches the root port alone.
 pub fn port_turn(
     port_id: u16,
     dev: Dev,
@@ -33,17 +168,47 @@ pub fn port_turn(
     cells: &mut [u32],
     answers: &mut [u8],
     at: usize,
-) -> PortDone
+) -> Dev
     requires { ⌜ at + 8 ≤ length (now answers) ⌝ }
-    ensures { λ r. ⌜ portRan r (now (cells .exit)) ≡ portRun «port_id» «record» (front dev (now (cells .entry))) ⌝ }
-    ensures { λ r. ⌜ now (answers .exit) ≡ paste (now (answers .entry)) at (answerBytes (r .reply)) 8 ⌝ }
+    ensures { λ r. ⌜ ((setup : Setup) (defaults : List ℕ) (statuses : List Status) (live : List ℕ) → setup .«port_id» ≡ «port_id» → partOf (setup .slots) «record» ≡ PortAlone
+        → TakesTurn setup defaults (state dev statuses live (now (cells .entry))) «record» (now (answers .entry)) at
+        (state r statuses live (now (cells .exit))) (now (answers .exit))) ⌝ }
 {
     let x = run_port(port_id, dev, cells, record);
     answer(answers, at, x.reply);
-    x
+    x.dev
 }
 
+// An FRS that comes with the link up.
+pub fn frs_turn(dev: Dev, cells: &mut [u32], frs: Frs, answers: &mut [u8], at: usize) -> Dev
+    requires { ⌜ at + 8 ≤ length (now answers) ⌝ }
+    ensures { λ r. ⌜ ((setup : Setup) (defaults : List ℕ) (statuses : List Status) (live : List ℕ) → dev .link ≡ true
+        → TakesTurn setup defaults (state dev statuses live (now (cells .entry))) (variants.Message (message.Frs (frs .id) (frs .reason))) (now (answers .entry)) at
+        (state r statuses live (now (cells .exit))) (now (answers .exit))) ⌝ }
+{
+    let x = receive_frs(dev, cells, frs);
+    answer(answers, at, x.reply);
+    let queue = x.queue;
+    let mut after = dev;
+    after.queue = queue;
+    after
+}
+
+// An advance to a moment before any slot becomes Ready.
+pub fn clock_turn(dev: Dev, by: Nanos, answers: &mut [u8], at: usize) -> Dev
+    requires { ⌜ at + 8 ≤ length (now answers) ⌝ }
+    ensures { λ r. ⌜ ((setup : Setup) (defaults : List ℕ) (statuses : List Status) (live cells : List ℕ) (earliest : Nanos) → ReadyFrom earliest statuses → sumOf (dev .clock) by .0 < earliest .0
+        → TakesTurn setup defaults (state dev statuses live cells) (variants.Advance by) (now (answers .entry)) at
+        (state r statuses live cells) (now (answers .exit))) ⌝ }
+{
+    let x = advance_alone(dev, by);
+    answer(answers, at, x.reply);
+    x.dev
+}
+
+// A record that touches every slot.
 pub fn card_turn(
+    table: &Masks,
     setup: Setup,
     dev: Dev,
     phases: &mut [u64],
@@ -53,12 +218,28 @@ pub fn card_turn(
     cells: &mut [u32],
     answers: &mut [u8],
     at: usize,
-) -> PortDone
+) -> Moved
+    requires { ⌜ now table ≡ masks ⌝ }
     requires { ⌜ (setup .slots ≤ 32) × (length (statusesIn (now phases)) ≡ setup .slots) × (at + 8 ≤ length (now answers)) ⌝ }
-    ensures { λ r. ⌜ cardRan r (statusesIn (now (phases .exit))) (now (live .exit)) (now (cells .exit)) ≡ cardRun setup (now (defaults .entry)) «record» (state dev (statusesIn (now (phases .entry))) (now (live .entry)) (now (cells .entry))) ⌝ }
-    ensures { λ r. ⌜ now (answers .exit) ≡ paste (now (answers .entry)) at (answerBytes (r .reply)) 8 ⌝ }
+    ensures { λ r. ⌜ (partOf (setup .slots) «record» ≡ WholeCard
+        → TakesTurn setup (now (defaults .entry)) (state dev (statusesIn (now (phases .entry))) (now (live .entry)) (now (cells .entry))) «record» (now (answers .entry)) at
+        (state (r .dev) (statusesIn (now (phases .exit))) (now (live .exit)) (now (cells .exit))) (now (answers .exit))) ⌝ }
+    ensures { λ r. ⌜ ReadyFrom (r .earliest) (statusesIn (now (phases .exit))) ⌝ }
 {
-    let x = run_card(setup, dev, phases, live, defaults, cells, record);
+    let x = run_card(
+        table,
+        setup,
+        dev,
+        &mut *phases,
+        live,
+        defaults,
+        cells,
+        record,
+    );
     answer(answers, at, x.reply);
-    x
+    let moved = x.dev;
+    Moved {
+        dev: moved,
+        earliest: settle::earliest_ready(setup.slots, phases),
+    }
 }

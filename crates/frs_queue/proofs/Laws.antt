@@ -120,7 +120,8 @@ arriveAll-append enabled (frs ∷ more) others r = arriveAll-append enabled more
 
 -- ---- removing and emptying
 
-removed-none : (n : ℕ) (q : Queue) → q .depth ≡ 0 → removed n q ≡ q
+-- Removing from an empty queue does nothing.
+pub removed-none : (n : ℕ) (q : Queue) → q .depth ≡ 0 → removed n q ≡ q
 unfolding removed
 removed-none n q e = rw (eq-eqb (q .depth) 0 e)
 

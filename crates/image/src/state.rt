@@ -12,13 +12,13 @@ use crate::numbers::put_two;
 use crate::numbers::size;
 use crate::numbers::size_of_byte;
 use crate::numbers::two_at;
-use feed::Port;
 use frs_queue::Queue;
 use readiness::Cause;
 use readiness::Control;
 use readiness::Dev;
 use readiness::Phase;
 use readiness::Status;
+use records::Port;
 use times::Nanos;
 
 // The port's 38 bytes, and 18 for each lent status.

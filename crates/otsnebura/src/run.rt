@@ -10,6 +10,7 @@ use desk::printing::flush;
 use desk::printing::flush_out;
 use desk::trace_file::PIECE;
 use desk::trace_file::complain_fault;
+use line_text::numbers::at_most;
 use readiness::Setup;
 use runs::ending::print_ending;
 use runs::session::Session;
@@ -24,7 +25,6 @@ use runs::turns::first_turn;
 use runs::turns::run_all;
 use usage::outcome::Outcome;
 use usage::outcome::unless_error;
-use words::numbers::at_most;
 
 // The answers that wait are written: the error of that, or of an earlier write, 0 where there is none.
 fn close_answers(o: Options, way: Way, answers: &[u8], kept: Waiting) -> i32 {

@@ -233,7 +233,7 @@ own-length : (setup : Setup) (b : Bool) (d : Dev) → length (cond b (frsOfDrs (
 unfolding frsOfDrs
 own-length setup b d =
     either-way (λ (m : List Frs). length m ≤ 1) b (frsOfDrs (setup .«port_id») d) []
-    (λ e. either-way (λ (m : List Frs). length m ≤ 1) (not (d .«drs_received») && eqb (d .control .signalling) 2) (record { id = setup .«port_id»; reason = 1 } ∷ []) [] (λ t. omega arith) (λ t. omega arith))
+    (λ e. either-way (λ (m : List Frs). length m ≤ 1) (not (d .«drs_received») && eqb (d .control .signalling) 2) _ _ (λ t. omega arith) (λ t. omega arith))
     (λ e. omega arith)
 
 -- One settle sends at most one message for each slot, and the port's own.

@@ -1,12 +1,8 @@
+pub mod Clauses
 pub mod Examples
 pub mod Order
 pub mod Scenes
 pub mod Laws
 pub mod TwoAdvances
-pub mod Messages
-pub mod Scan
-pub mod Settling
-pub mod Statuses
 pub mod Bounds
-pub mod Insertion
 pub mod PhaseNumbers

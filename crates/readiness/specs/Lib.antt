@@ -1,8 +1,6 @@
 pub mod Status
 pub mod Root
 pub mod Events
-pub mod Next
-pub mod Prepared
 pub mod Settle
 pub mod Earliest
 pub mod Phases

@@ -12,7 +12,7 @@ use Rattle.times.specs.Codes.{nanosOf, powerOf}
 use Rattle.times.specs.Moments.{sumOf, leastOf}
 use Rattle.registers.specs.Rows.{endpointTable, find, endpointRow, rowOf, readsZero, startsFlr}
 use Rattle.registers.specs.Words.{laneMask, held, readWord, writeBit, writeWord, resetBit, linkReset, flrReset, hardwareSet}
-use Rattle.registers.specs.Functions.{resetWhere, linkResetSlot, flrResetSlot, linkResetAll, coldReset}
+use Rattle.config_space.specs.Functions.{resetWhere, linkResetSlot, flrResetSlot, linkResetAll, coldReset}
 use Rattle.messages.specs.declared.Message.the-variants.{Drs, Frs}
 use Rattle.frs_queue.specs.Queue.{counted, placeOf, queues, drops, arrives, arriveAll, removed, registerOf, messagesOf}
 use Rattle.readiness.specs.declared.Cause.the-variants as cause
@@ -48,15 +48,15 @@ computed setup defaults s r = run setup defaults s r
 abbrev entry : Slot
 entry = record { reset = record { 0 = 0 }; «dl_up» = record { 0 = 0x00A }; flr = record { 0 = 0xA04 }; d3hot = record { 0 = 0x003 }; «sends_frs» = true }
 
-abbrev card : Setup
+abbrev pub card : Setup
 card = record { slots = 1; entries = entry ∷ replicate 31 noSlot; bus = 1; «port_id» = 0x0008 }
 
 -- vendor and device ID; FLR capable; device control 2810h; interrupt line FFh
-abbrev defaults : List ℕ
+abbrev pub defaults : List ℕ
 defaults = set (set (set (set (replicate 64 0) 0 0x56781234) 0x1D 0x10000000) 0x1E 0x00002810) 0x0F 0x000001FF
 
 -- visibility, FRS interrupt and signalling
-abbrev with : Bool → Bool → ℕ → PortControl.Control
+abbrev pub with : Bool → Bool → ℕ → PortControl.Control
 with visibility interrupt signalling = record { visibility = visibility; «frs_interrupt» = interrupt; signalling = signalling }
 
 -- the link is up, the queue is empty and the status bits are 0
@@ -84,7 +84,7 @@ after s r = run card defaults s r .after
 abbrev at : (slot word enables : ℕ) → Request
 at slot word enables = record { slot = slot; word = word; enables = enables }
 
-abbrev ns : ℕ → Nanos
+abbrev pub ns : ℕ → Nanos
 ns n = record { 0 = n }
 
 abbrev reads : State → (word enables : ℕ) → ℕ
@@ -444,6 +444,21 @@ pub ties-by-slot : run pair [] (state (port 0 (with false true 0)) (pending caus
     ≡ 0x00020100 ∷ 0x00020101 ∷ []
 unfolding computed
 ties-by-slot = refl
+
+-- link up: each slot is Pending until c + its own DL Up Time, here 10 ns and 1,024 ns
+abbrev unlike : Setup
+unlike =
+    record {
+      slots = 2;
+      entries = entry ∷ record { reset = record { 0 = 0 }; «dl_up» = record { 0 = 0x220 }; flr = record { 0 = 0 }; d3hot = record { 0 = 0 }; «sends_frs» = false } ∷ replicate 30 noSlot;
+      bus = 1;
+      «port_id» = 0x0008;
+    }
+
+pub link-up-own-times : run unlike [] (state (after (settled (with false false 0)) LinkDown .dev) (down ∷ down ∷ []) [] (0 ∷ [])) LinkUp .after .statuses
+    ≡ pending cause.LinkUp (ns 1010) ∷ pending cause.LinkUp (ns 2024) ∷ []
+unfolding computed
+link-up-own-times = refl
 
 -- hardware sets those mask bits that lie in C; a slot that isn't Ready is refused
 pub hardware-status : getD (after (settled (with false false 0)) (HardwareSet 0 1 0xFFFFFFFF) .live) 1 0 ≡ 0xF9000000

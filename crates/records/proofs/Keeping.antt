@@ -4,16 +4,15 @@ use Prim.Native.Nat.{ℕ, zero, suc, _+_, _/_, _%_, _≤_, _<_}
 use native.Mathlib.Nat.{zero-add}
 use native.Mathlib.Omega.{arith}
 use mathlib.Core.Path.{_≡_, refl, ap, sym, subst, _∙_}
-use mathlib.Core.Bool.{Bool, true, false, not, _&&_, _||_, true≢false, false≢true}
+use mathlib.Core.Bool.{Bool, true, false, not, _||_, true≢false, false≢true}
 use mathlib.Core.List.{List, [], _∷_, _++_}
 use lib.Dec.{eqb, leb, ltb}
 use lib.ListN.{length, getD, set, take, drop, replicate, length-set, length-take, List·getD-eq-default}
 use lib.Seq.{getD-set-other, getD-take, getD-drop}
 use borrow.Author.Tests.{ltb-true, ltb-false, leb-true, le-leb, eqb-false}
-use Rattle.bits.proofs.Tests.{both-left, both-right}
 use Rattle.bits.specs.Bits.{bit}
 use Rattle.times.specs.declared.Nanos.{Nanos}
-use Rattle.times.specs.Codes.{nanosOf, allowed, greatestTime}
+use Rattle.times.specs.Codes.{nanosOf, allowed}
 use Rattle.times.specs.Moments.{greatestNanos, sumOf, leastOf}
 use Rattle.times.proofs.Laws.{allowed-most, sum-plain, sum-code, least-both}
 use Rattle.messages.specs.declared.Message.{Message}
@@ -22,9 +21,9 @@ use Rattle.messages.specs.Messages.{Bytes, readMessage, frsReason}
 use Rattle.messages.proofs.Laid.{allowed-small}
 use Rattle.messages.proofs.Cases.{cases}
 use Rattle.registers.specs.declared.Kind.{Kind}
-use Rattle.registers.proofs.Slots.{link-reset-slot-length, flr-reset-slot-length, link-reset-all-length, cold-reset-defaults}
+use Rattle.config_space.proofs.Slots.{link-reset-slot-length, flr-reset-slot-length, link-reset-all-length, cold-reset-defaults}
 use Rattle.registers.specs.Words.{writeWord}
-use Rattle.registers.specs.Functions.{linkResetSlot}
+use Rattle.config_space.specs.Functions.{linkResetSlot}
 use Rattle.frs_queue.specs.Queue.{noTally}
 use Rattle.readiness.specs.declared.Cause.the-variants as cause
 use Rattle.readiness.specs.declared.Phase.{Phase}
@@ -33,9 +32,10 @@ use Rattle.readiness.specs.declared.Status.{Status}
 use Rattle.readiness.specs.declared.Slot.{Slot}
 use Rattle.readiness.specs.declared.Setup.{Setup}
 use Rattle.readiness.specs.declared.Dev.{Dev}
-use Rattle.readiness.specs.Status.{ready, pending, isReady, allReady, entryOf, eachFrom, readyAfterLinkUp, statusAfterReset, afterReset, afterLinkDown, afterColdReset, flrMost, startedByFlr, startedByD3hot}
+use Rattle.readiness.specs.Status.{ready, pending, isReady, entryOf, eachFrom, readyAfterLinkUp, statusAfterReset, afterReset, afterLinkDown, afterColdReset, flrMost, startedByFlr, startedByD3hot}
 use Rattle.readiness.specs.Root.{frsArrive, drsArrives, drsSet}
 use Rattle.readiness.proofs.Order.{either-way}
+use Rattle.readiness.proofs.Clauses.{each-at}
 use Rattle.records.specs.declared.Request.{Request}
 use Rattle.records.specs.declared.Record.{Record}
 use Rattle.records.specs.declared.Record.the-variants.{Advance, Read, Write, Message as MessageRecord, LinkUp, LinkDown, ColdReset, ReadQueue, RemoveOldest, ClearBits, Control, HardwareSet, ReadBits, NoKind}
@@ -48,10 +48,11 @@ use Rattle.records.specs.Requests.{wordAt, written, writeSeat, afterFlr,
 use Rattle.records.specs.PortRecords.{Front, frontRoot, messageDone, messageEffect, readQueueEffect, removeEffect, clearedDev, clearEffect, controlOf, controlEffect, readBitsEffect}
 use Rattle.records.specs.CardRecords.{clockEnd, advanceEffect, linkUpEffect, linkDownEffect, coldResetEffect}
 use Rattle.records.specs.Run.{atSlot, atPort, frontOf, effect, run}
-use Rattle.records.specs.Sound.{soundCause, soundPhase, matchesLink, Sound, Fitting}
+use Rattle.records.specs.Sound.{soundPhase, matchesLink, Sound, Fitting}
+use Rattle.records.proofs.SoundFacts.{flr-end-exactly, pending-exactly, phase-test, link-test}
 use Rattle.records.proofs.Parted.{no-slot-read, no-slot-write, no-slot-set, access-ready, write-cases}
 use Rattle.records.proofs.QueueKept.{SoundRing, cells-small, frs-keeps, drs-keeps, frs-cells, drs-cells, removed-keeps, empty-sound}
-use Rattle.records.proofs.SlotsKept.{set-keeps, length-each, each-at, each-past}
+use Rattle.records.proofs.SlotsKept.{set-keeps, length-each, each-past}
 use Rattle.records.proofs.Kept.{SoundSetup, SoundMessage, SoundRecord, Keeps, keeps-itself, keeps-on}
 use Rattle.records.proofs.Settled.{Starting, Settling, settle-sound}
 
@@ -61,21 +62,12 @@ use Rattle.records.proofs.Settled.{Starting, Settling, settle-sound}
 sound-starting : (clock : Nanos) (p : Phase) → soundPhase clock p ≡ true → Starting clock p
 sound-starting clock Down e = tt
 sound-starting clock Ready e = tt
-sound-starting clock (Pending c t) e =
-    let later = ltb (clock .0) (t .0) in
-    let most = leb (t .0) (clock .0 + greatestTime) in
-    let first : (later && most) ≡ true = both-left (later && most) (soundCause c t) e in
-    (leb-true (t .0) (clock .0 + greatestTime) (both-right later most first), both-right (later && most) (soundCause c t) e)
+sound-starting clock (Pending c t) e = let x = pending-exactly clock c t .0 e in (x .1, flr-end-exactly c t .1 (x .2))
 
 starting-later : (clock later : Nanos) → clock .0 ≤ later .0 → (p : Phase) → Starting clock p → Starting later p
 starting-later clock later h Down e = tt
 starting-later clock later h Ready e = tt
 starting-later clock later h (Pending c t) e = (let m = e .0 in omega arith, e .1)
-
-owed-link : (owed link all : Bool) → (not owed || (link && not all)) ≡ true → owed ≡ true → link ≡ true
-owed-link owed true all e o = refl
-owed-link true false all e o = absurd (false≢true e)
-owed-link false false all e o = absurd (false≢true o)
 
 -- moments: a clock that isn't past its end has room for every code's time
 sum-later : (t by : Nanos) → t .0 ≤ greatestNanos → t .0 ≤ sumOf t by .0
@@ -110,10 +102,10 @@ module _ (setup : Setup) (good : SoundSetup setup) (defaults : List ℕ) (s : St
   ring = record { start = h .start; depth = h .depth; small = cells-small (s .cells) (s .dev .queue) (h .cells) }
 
   phases-starting : (i : ℕ) → i < setup .slots → Starting (s .dev .clock) (statusAt (s .statuses) i .phase)
-  phases-starting i l = sound-starting (s .dev .clock) (statusAt (s .statuses) i .phase) (h .phases i l)
+  phases-starting i l = sound-starting (s .dev .clock) (statusAt (s .statuses) i .phase) (phase-test h i l)
 
   link-owed : s .dev .owed ≡ true → s .dev .link ≡ true
-  link-owed = owed-link (s .dev .owed) (s .dev .link) (allReady (s .statuses)) (h .owed)
+  link-owed = h .owedLink
 
   -- ---- the port alone
   record PortKeeps (y : Front) : Type 0 where
@@ -136,7 +128,7 @@ module _ (setup : Setup) (good : SoundSetup setup) (defaults : List ℕ) (s : St
         ring = k .ring;
         signalling = k .signalling;
         phases = λ i l. subst (λ (c : Nanos). Starting c (statusAt (s .statuses) i .phase)) (sym (k .clock)) (phases-starting i l);
-        links = λ i l. ap (λ (b : Bool). matchesLink b (statusAt (s .statuses) i .phase)) (k .link) ∙ h .links i l;
+        links = λ i l. ap (λ (b : Bool). matchesLink b (statusAt (s .statuses) i .phase)) (k .link) ∙ link-test h i l;
         owed = λ e. k .link ∙ link-owed (sym (k .owed) ∙ e);
         past = fits .past;
         cells = k .cells;
@@ -213,7 +205,7 @@ module _ (setup : Setup) (good : SoundSetup setup) (defaults : List ℕ) (s : St
         ring = ring;
         signalling = h .signalling;
         phases = λ j m. set-keeps (λ (v : Status). Starting (s .dev .clock) (v .phase)) (s .statuses) i j (y .status) (k .phase) (phases-starting j m);
-        links = λ j m. set-keeps (λ (v : Status). matchesLink (s .dev .link) (v .phase) ≡ true) (s .statuses) i j (y .status) (k .link) (h .links j m);
+        links = λ j m. set-keeps (λ (v : Status). matchesLink (s .dev .link) (v .phase) ≡ true) (s .statuses) i j (y .status) (k .link) (link-test h j m);
         owed = link-owed;
         past = λ j m. getD-set-other (s .statuses) i j (y .status) ready (λ e. omega arith) ∙ fits .past j m;
         cells = refl;
@@ -224,10 +216,10 @@ module _ (setup : Setup) (good : SoundSetup setup) (defaults : List ℕ) (s : St
   module _ (i : ℕ) (l : i < setup .slots) where
     -- a slot whose registers change, but not their number
     words-keep : (live : List ℕ) → length live ≡ length (s .live) → SlotKeeps (record { dev = s .dev; status = statusAt (s .statuses) i; live = live; cells = s .cells })
-    words-keep live e = record { dev = refl; cells = refl; live = e; phase = phases-starting i l; link = h .links i l }
+    words-keep live e = record { dev = refl; cells = refl; live = e; phase = phases-starting i l; link = link-test h i l }
 
     link-up : statusAt (s .statuses) i ≡ ready → s .dev .link ≡ true
-    link-up e = sym (ap (λ (v : Status). matchesLink (s .dev .link) (v .phase)) e) ∙ h .links i l
+    link-up e = sym (ap (λ (v : Status). matchesLink (s .dev .link) (v .phase)) e) ∙ link-test h i l
 
     read-keeps : (q : Request) → SlotEffectKeeps (readEffect (setup .slots) (kindOf setup i) q (seatOf s i))
     unfolding readEffect
@@ -299,7 +291,7 @@ module _ (setup : Setup) (good : SoundSetup setup) (defaults : List ℕ) (s : St
         ring = ring;
         signalling = h .signalling;
         phases = λ i l. starting-later (s .dev .clock) t (sum-later (s .dev .clock) by (let c = h .clock in omega arith)) (statusAt (s .statuses) i .phase) (phases-starting i l);
-        links = h .links;
+        links = link-test h;
         owed = link-owed;
         past = fits .past;
         cells = refl;

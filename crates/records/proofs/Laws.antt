@@ -1,27 +1,25 @@
 -- What holds of every record, whatever its kind.
 -- Assumes nothing.
-use Prim.Native.Nat.{ℕ, zero, suc, _+_, _/_, _≤_, _<_}
+use Prim.Native.Nat.{ℕ, zero, suc, _+_, _*_, _/_, _%_, _≤_, _<_}
 use native.Mathlib.Omega.{arith}
-use mathlib.Core.Bool.{Bool, true, false, _&&_, _||_, cond, false≢true}
+use mathlib.Core.Bool.{Bool, true, false, _||_, cond, false≢true}
 use mathlib.Core.List.{List, [], _∷_}
 use mathlib.Core.Logic.{_≢_}
 use mathlib.Core.Path.{_≡_, refl, sym, ap, _∙_}
-use lib.Dec.{leb, ltb}
+use lib.Dec.{leb}
 use lib.ListN.{length}
 use lib.Seq.{getD-set-other}
-use borrow.Author.Tests.{le-leb, lt-leb, ltb-true, ltb-false}
+use borrow.Author.Tests.{le-leb, lt-leb, ltb-false}
 use Rattle.bits.specs.Bits.{bit}
-use Rattle.bits.proofs.Tests.{both-left}
 use Rattle.times.specs.declared.Nanos.{Nanos}
-use Rattle.times.specs.Codes.{greatestTime}
 use Rattle.times.specs.Moments.{greatestNanos, sumOf}
 use Rattle.registers.specs.declared.Kind.{Kind}
 use Rattle.registers.specs.declared.Kind.the-variants.{Endpoint}
 use Rattle.registers.specs.Rows.{startsFlr, deviceControl, deviceZeros, readsZero}
 use Rattle.registers.specs.Words.{writeWord, hardwareSet}
-use Rattle.registers.specs.Functions.{linkResetSlot}
+use Rattle.config_space.specs.Functions.{linkResetSlot}
 use Rattle.registers.proofs.Laws.{read-zero}
-use Rattle.registers.proofs.Slots.{link-reset-slot-others, flr-reset-slot-others}
+use Rattle.config_space.proofs.Slots.{link-reset-slot-others, flr-reset-slot-others}
 use Rattle.frs_queue.specs.declared.Tally.{Tally}
 use Rattle.frs_queue.specs.Queue.{noTally}
 use Rattle.readiness.specs.declared.Cause.{Cause}
@@ -41,15 +39,32 @@ use Rattle.records.specs.declared.Request.{Request}
 use Rattle.records.specs.declared.Record.{Record}
 use Rattle.records.specs.declared.Record.the-variants.{Advance, Read, Write, Message, LinkUp, LinkDown, ColdReset, ReadQueue, RemoveOldest, ClearBits, Control, HardwareSet, ReadBits, NoKind}
 use Rattle.records.specs.declared.Completion.the-variants as completion
+use Rattle.records.specs.declared.Reply.{Reply}
 use Rattle.records.specs.State.{State, state, Seat, seatOf, statusAt, wordPlace, sceneOf, withLive, kindOf}
-use Rattle.records.specs.Answer.{Effect, refused, does, Ran, reply, answered, completionNumber}
+use Rattle.records.specs.Decode.{four}
+use Rattle.records.specs.Answer.{Effect, refused, does, Ran, reply, answered, answerBytes, completionNumber}
 use Rattle.records.specs.Requests.{wordAt, startsD3hot, afterFlr, afterD3hot, written, writeSeat}
 use Rattle.records.specs.PortRecords.{clearedDev}
 use Rattle.records.specs.CardRecords.{clockEnd, advanceEffect}
 use Rattle.records.specs.Run.{effect, run}
-use Rattle.records.specs.Sound.{soundPhase, soundCause, Sound}
+use Rattle.records.specs.Sound.{soundPhase, Sound}
+use Rattle.records.proofs.SoundFacts.{pending-exactly, phase-test}
 use Rattle.records.proofs.Numbers.{access-facts, statusOf, dataOf, read-done-data, answered-0}
 use Rattle.records.proofs.Leaving.{Leaves, Every, every, advancedBy}
+
+-- ---- an answer's bytes
+
+joined : (d a b c w x y z : ℕ) → d ≡ 256 * a + w → a ≡ 256 * b + x → b ≡ 256 * c + y → c ≡ z → w + 256 * x + 65536 * y + 16777216 * z ≡ d
+joined d a b c w x y z e f g h = omega arith
+
+-- its last four bytes are its data, low byte first
+pub answer-data : (a : Reply) → a .«data» < 4294967296 → four (answerBytes a) 4 ≡ a .«data»
+unfolding four answerBytes
+answer-data a h =
+    let d : ℕ = a .«data» in
+    let second : d / 256 ≡ 256 * (d / 65536) + d / 256 % 256 = omega arith in
+    let third : d / 65536 ≡ 256 * (d / 16777216) + d / 65536 % 256 = omega arith in
+    joined d (d / 256) (d / 65536) (d / 16777216) _ _ _ _ (omega arith) second third (omega arith)
 
 -- ---- a record that isn't done
 
@@ -359,9 +374,7 @@ ready-by-at clock (s ∷ l) (suc k) = ready-by-at clock l k
 
 -- a sound Pending slot's ready time is after the clock
 pub sound-later : (clock : Nanos) (c : Cause) (t : Nanos) → soundPhase clock (phase.Pending c t) ≡ true → clock .0 < t .0
-sound-later clock c t e =
-    let a = both-left (ltb (clock .0) (t .0) && leb (t .0) (clock .0 + greatestTime)) (soundCause c t) e in
-    ltb-true (clock .0) (t .0) (both-left (ltb (clock .0) (t .0)) (leb (t .0) (clock .0 + greatestTime)) a)
+sound-later clock c t e = pending-exactly clock c t .0 e .0
 
 later-stays : (clock : Nanos) (p : Phase) → soundPhase clock p ≡ true → phaseBy clock p ≡ p
 later-stays clock phase.Down e = refl
@@ -389,4 +402,4 @@ pub other-slots : (setup : Setup) (defaults : List ℕ) (s : State) (r : Record)
     → SameSlot s (run setup defaults s r .after) slot
 unfolding run
 other-slots setup defaults s r addressed slot sound a l n =
-    answered-others setup s slot r addressed (effect setup defaults s r) (every (OthersLeft slot s) setup defaults s (others-left setup defaults s slot) r) a n (sound .phases slot l)
+    answered-others setup s slot r addressed (effect setup defaults s r) (every (OthersLeft slot s) setup defaults s (others-left setup defaults s slot) r) a n (phase-test sound slot l)

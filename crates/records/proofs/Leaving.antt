@@ -12,7 +12,7 @@ use Rattle.times.specs.Moments.{sumOf}
 use Rattle.messages.specs.declared.Message.{Message}
 use Rattle.messages.specs.declared.Message.the-variants.{Drs, Frs, NotReadiness}
 use Rattle.registers.specs.Words.{readWord, hardwareSet}
-use Rattle.registers.specs.Functions.{linkResetAll, coldReset}
+use Rattle.config_space.specs.Functions.{linkResetAll, coldReset}
 use Rattle.frs_queue.specs.declared.Tally.{Tally}
 use Rattle.frs_queue.specs.Queue.{noTally, removed, registerOf}
 use Rattle.readiness.specs.declared.Status.{Status}

@@ -1,9 +1,12 @@
+pub mod Clauses
+pub mod SoundFacts
+pub mod Unsound
 pub mod Examples
+pub mod MarkedCases
 pub mod Leaving
 pub mod Numbers
 pub mod Laws
 pub mod Queued
-pub mod SoundFacts
 pub mod Resting
 pub mod Parted
 pub mod QueueKept
@@ -11,3 +14,5 @@ pub mod SlotsKept
 pub mod Kept
 pub mod Settled
 pub mod Keeping
+pub mod OnBytes
+pub mod Starts

@@ -111,7 +111,7 @@ module _ (slots : ℕ) (dev : Dev) (status : Status) (isRead : Bool) (q : Reques
   pub goes-link-down : Looked slots q → dev .link ≡ false → routeOf slots dev status isRead q ≡ route.LinkDown
   goes-link-down h e = looked h ∙ ap (λ (b : Bool). cond (not b) route.LinkDown (phaseRoute (dev .clock) (status .phase) shownOrNot)) e
 
-  by-phase : Looked slots q → dev .link ≡ true → (p : Phase) → status .phase ≡ p → routeOf slots dev status isRead q ≡ phaseRoute (dev .clock) p shownOrNot
+  pub by-phase : Looked slots q → dev .link ≡ true → (p : Phase) → status .phase ≡ p → routeOf slots dev status isRead q ≡ phaseRoute (dev .clock) p shownOrNot
   by-phase h e p f =
       looked h ∙ ap (λ (b : Bool). cond (not b) route.LinkDown (phaseRoute (dev .clock) (status .phase) shownOrNot)) e
       ∙ ap (λ (p : Phase). phaseRoute (dev .clock) p shownOrNot) f

@@ -43,6 +43,7 @@ use Rattle.records.specs.Arrivals.{ofRecord, arrivalsIn, arrivals}
 use Rattle.records.specs.Run.{effect, run}
 use Rattle.records.specs.Sound.{soundPhase, Sound, Fitting}
 use Rattle.records.proofs.Leaving.{Leaves, Every, every, withRoot}
+use Rattle.records.proofs.SoundFacts.{phase-test, owed-test}
 use Rattle.records.proofs.Laws.{write-dev, write-cells, sound-later}
 
 -- ---- what the record itself leaves of the queue and of the port, before anything arrives
@@ -484,14 +485,14 @@ module _ (setup : Setup) (defaults : List ℕ) (s : State) (sound : Sound setup 
   phases i = by (ltb i (setup .slots)) refl
     where
       by : (b : Bool) → ltb i (setup .slots) ≡ b → soundPhase (s .dev .clock) (statusAt (s .statuses) i .phase) ≡ true
-      by true e = sound .phases i (ltb-true i (setup .slots) e)
+      by true e = phase-test sound i (ltb-true i (setup .slots) e)
       by false e = ap (λ (x : Status). soundPhase (s .dev .clock) (x .phase)) (fits .past i (ltb-false i (setup .slots) e))
 
   rests : due (s .dev .clock) (s .statuses) ≡ []
   rests = due-none 0 (s .dev .clock) (s .statuses) phases
 
   drs-rests : (s .dev .owed && allReady (s .statuses)) ≡ false
-  drs-rests = calm (s .dev .owed) (s .dev .link) (allReady (s .statuses)) (sound .owed)
+  drs-rests = calm (s .dev .owed) (s .dev .link) (allReady (s .statuses)) (owed-test sound)
 
   stopped : due (s .dev .clock) (stoppedByReset setup (s .statuses)) ≡ []
   stopped = due-stopped 0 (setup .slots) (s .dev .clock) (s .statuses) (λ i e. fits .past i (omega arith))

@@ -1,15 +1,13 @@
 -- A sound state is at rest: nothing is due, and no DRS is to be told.
 -- Assumes nothing.
-use Prim.Native.Nat.{ℕ, _+_, _<_}
+use Prim.Native.Nat.{ℕ, _<_}
 use native.Mathlib.Omega.{arith}
 use mathlib.Core.Path.{_≡_, refl, ap}
 use mathlib.Core.Bool.{Bool, true, false, not, _&&_, _||_, false≢true}
 use mathlib.Core.List.{List, [], _∷_, List·Memᴰ, List·Memᴰ·head}
-use lib.Dec.{leb, ltb}
+use lib.Dec.{ltb}
 use borrow.Author.Tests.{ltb-true, ltb-false}
-use Rattle.bits.proofs.Tests.{both-left}
 use Rattle.times.specs.declared.Nanos.{Nanos}
-use Rattle.times.specs.Codes.{greatestTime}
 use Rattle.frs_queue.specs.declared.Tally.{Tally}
 use Rattle.readiness.specs.declared.Cause.{Cause}
 use Rattle.readiness.specs.declared.Phase.{Phase}
@@ -21,7 +19,8 @@ use Rattle.readiness.specs.Events.{Event, due}
 use Rattle.readiness.specs.Settle.{settles}
 use Rattle.readiness.proofs.Laws.{due-order, settle-rest}
 use Rattle.records.specs.State.{State, statusAt, sceneOf}
-use Rattle.records.specs.Sound.{soundPhase, soundCause, Sound, Fitting}
+use Rattle.records.specs.Sound.{soundPhase, Sound, Fitting}
+use Rattle.records.proofs.SoundFacts.{pending-exactly, phase-test, owed-test}
 
 -- nothing is due at the clock, and no DRS is owed with every slot Ready
 pub record Resting (clock : Nanos) (owed : Bool) (l : List Status) : Type 0 where
@@ -30,11 +29,7 @@ pub record Resting (clock : Nanos) (owed : Bool) (l : List Status) : Type 0 wher
 
 -- a slot that is sound isn't due
 pub pends-later : (clock : Nanos) (p : Phase) (c : Cause) (t : Nanos) → soundPhase clock p ≡ true → p ≡ Pending c t → clock .0 < t .0
-pends-later clock p c t e q =
-    let f : soundPhase clock (Pending c t) ≡ true = rw q at e in
-    let later = ltb (clock .0) (t .0) in
-    let most = leb (t .0) (clock .0 + greatestTime) in
-    ltb-true (clock .0) (t .0) (both-left later most (both-left (later && most) (soundCause c t) f))
+pends-later clock p c t e q = pending-exactly clock c t .0 (rw q at e) .0
 
 no-member : (es : List Event) → ((e : Event) → List·Memᴰ e es → ⊥) → es ≡ []
 no-member [] f = refl
@@ -61,7 +56,7 @@ pub all-phases : (setup : Setup) (defaults : List ℕ) (s : State) → Sound set
 all-phases setup defaults s h f i = by (ltb i (setup .slots)) refl
   where
     by : (b : Bool) → ltb i (setup .slots) ≡ b → soundPhase (s .dev .clock) (statusAt (s .statuses) i .phase) ≡ true
-    by true e = h .phases i (ltb-true i (setup .slots) e)
+    by true e = phase-test h i (ltb-true i (setup .slots) e)
     by false e = ap (λ (t : Status). soundPhase (s .dev .clock) (t .phase)) (f .past i (ltb-false i (setup .slots) e))
 
 -- A sound state is at rest.
@@ -69,7 +64,7 @@ pub sound-rests : (setup : Setup) (defaults : List ℕ) (s : State) → Sound se
 sound-rests setup defaults s h f =
     record {
       due = none-due (s .dev .clock) (s .statuses) (all-phases setup defaults s h f);
-      drs = not-owed (s .dev .owed) (s .dev .link) (allReady (s .statuses)) (h .owed);
+      drs = not-owed (s .dev .owed) (s .dev .link) (allReady (s .statuses)) (owed-test h);
     }
 
 -- So there settling changes nothing and brings nothing.

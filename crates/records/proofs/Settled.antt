@@ -28,6 +28,7 @@ use Rattle.readiness.proofs.Laws.{due-order, settled-drs}
 use Rattle.records.specs.State.{State, statusAt, sceneOf, withLive}
 use Rattle.records.specs.CardRecords.{clockEnd}
 use Rattle.records.specs.Sound.{soundCause, soundPhase, matchesLink, Fitting}
+use Rattle.records.proofs.SoundFacts.{by-tests}
 use Rattle.records.proofs.QueueKept.{SoundRing, small-cells, settle-ring}
 use Rattle.records.proofs.SlotsKept.{at-readyBy}
 use Rattle.records.proofs.Kept.{SoundSetup, Keeps}
@@ -104,16 +105,16 @@ module _ (setup : Setup) (good : SoundSetup setup) (defaults : List ℕ) (s : St
   pub settle-sound : (t : State) (tally : Tally) → Settling setup defaults s t → Keeps setup defaults s (withLive (settles setup (sceneOf t tally)) (t .live))
   settle-sound t tally h =
       record {
-        sound = record {
-          clock = subst (λ (c : Nanos). c .0 ≤ clockEnd) (sym (k .clock)) (h .clock);
-          start = ring .start;
-          depth = ring .depth;
-          cells = small-cells (x .root .cells) (x .root .dev .queue) (ring .small);
-          signalling = subst (λ (c : PortControl). c .signalling ≤ 2) (sym (k .control)) (h .signalling);
-          phases = λ i l. ap (λ (v : Status). soundPhase (x .root .dev .clock) (v .phase)) (at i) ∙ ap (λ (c : Nanos). soundPhase c (phaseBy clock (statusAt (t .statuses) i .phase))) (k .clock) ∙ phase-settled clock (statusAt (t .statuses) i .phase) (h .phases i l);
-          links = λ i l. ap (λ (v : Status). matchesLink (x .root .dev .link) (v .phase)) (at i) ∙ ap (λ (b : Bool). matchesLink b (phaseBy clock (statusAt (t .statuses) i .phase))) (k .link) ∙ link-settled (t .dev .link) clock (statusAt (t .statuses) i .phase) (h .links i l);
-          owed = owed-sound (x .root .dev .owed) (x .root .dev .link) (allReady (x .statuses)) (λ e. k .link ∙ h .owed (settles-owed setup (sceneOf t tally) e)) (settled-drs setup (sceneOf t tally));
-        };
+        sound =
+            by-tests setup (withLive x (t .live)) (subst (λ (c : Nanos). c .0 ≤ clockEnd) (sym (k .clock)) (h .clock)) (ring .start) (ring .depth)
+            (small-cells (x .root .cells) (x .root .dev .queue) (ring .small)) (subst (λ (c : PortControl). c .signalling ≤ 2) (sym (k .control)) (h .signalling))
+            (λ i l.
+            ap (λ (v : Status). soundPhase (x .root .dev .clock) (v .phase)) (at i) ∙ ap (λ (c : Nanos). soundPhase c (phaseBy clock (statusAt (t .statuses) i .phase))) (k .clock)
+            ∙ phase-settled clock (statusAt (t .statuses) i .phase) (h .phases i l))
+            (λ i l.
+            ap (λ (v : Status). matchesLink (x .root .dev .link) (v .phase)) (at i) ∙ ap (λ (b : Bool). matchesLink b (phaseBy clock (statusAt (t .statuses) i .phase))) (k .link)
+            ∙ link-settled (t .dev .link) clock (statusAt (t .statuses) i .phase) (h .links i l))
+            (owed-sound (x .root .dev .owed) (x .root .dev .link) (allReady (x .statuses)) (λ e. k .link ∙ h .owed (settles-owed setup (sceneOf t tally) e)) (settled-drs setup (sceneOf t tally)));
         fits = record {
           some = fits .some;
           most = fits .most;

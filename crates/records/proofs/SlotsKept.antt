@@ -1,13 +1,12 @@
 -- Each slot's status where slots are started anew, become Ready, or are replaced.
 -- Assumes nothing.
-use Prim.Native.Nat.{ℕ, zero, suc, _+_, _≤_, _<_}
-use native.Mathlib.Nat.{add-zero}
+use Prim.Native.Nat.{ℕ, zero, suc, _+_, _≤_}
 use native.Mathlib.Omega.{arith}
-use mathlib.Core.Path.{_≡_, refl, ap, sym, _∙_}
+use mathlib.Core.Path.{_≡_, refl, ap}
 use mathlib.Core.Bool.{Bool, cond}
 use mathlib.Core.List.{List, [], _∷_}
 use lib.ListN.{length, set}
-use borrow.Author.Tests.{lt-ltb, le-ltb}
+use borrow.Author.Tests.{le-ltb}
 use Rattle.times.specs.declared.Nanos.{Nanos}
 use Rattle.readiness.specs.declared.Status.{Status}
 use Rattle.readiness.specs.Status.{eachFrom}
@@ -35,16 +34,6 @@ module _ (slots : ℕ) (f : ℕ → Status) where
   unfolding eachFrom
   length-each k [] = refl
   length-each k (s ∷ l) = ap suc (length-each (suc k) l)
-
-  pub each-at : (k : ℕ) (l : List Status) (i : ℕ) → i < length l → k + i < slots → statusAt (eachFrom k slots f l) i ≡ f (k + i)
-  unfolding eachFrom
-  each-at k [] i h m = absurd (omega arith)
-  each-at k (s ∷ l) zero h m =
-      let n : k < slots = omega arith in
-      ap (λ (b : Bool). cond b (f k) s) (lt-ltb k slots n) ∙ ap f (sym (add-zero k))
-  each-at k (s ∷ l) (suc i) h m =
-      let n : suc k + i ≡ k + suc i = omega arith in
-      each-at (suc k) l i (omega arith) (omega arith) ∙ ap f n
 
   -- past the card's slots the statuses stay
   pub each-past : (k : ℕ) (l : List Status) (i : ℕ) → slots ≤ k + i → statusAt (eachFrom k slots f l) i ≡ statusAt l i

@@ -1,24 +1,99 @@
--- Soundness as a test and as facts: each gives the other.
+-- Soundness: the test for refusal 5 and what 5 lists, clause by clause; each gives the other.
 -- Assumes nothing.
-use Prim.Native.Nat.{ℕ, zero, suc, _*_, _≤_, _<_}
+use Prim.Native.Nat.{ℕ, zero, suc, _+_, _*_, _≤_, _<_}
 use native.Mathlib.Nat.{eq-or-lt-of-le}
 use native.Mathlib.Omega.{arith}
-use mathlib.Core.Path.{_≡_, refl, ap, sym, _∙_}
-use mathlib.Core.Logic.{⊎-elim}
-use mathlib.Core.Bool.{Bool, true, false, not, _&&_, _||_}
-use mathlib.Core.List.{List}
+use mathlib.Core.Path.{_≡_, refl, ap, sym, subst, _∙_}
+use mathlib.Core.Logic.{_≢_, _↔_, ⊎-elim}
+use mathlib.Core.Bool.{Bool, true, false, not, _&&_, _||_, false≢true}
+use mathlib.Core.List.{List, [], _∷_}
 use lib.Dec.{leb, ltb}
 use lib.ListN.{length, getD, List·getD-eq-default}
 use borrow.Author.Tests.{lt-ltb, le-leb, ltb-true, leb-true}
 use Rattle.bits.proofs.Tests.{both, both-left, both-right}
+use Rattle.times.specs.declared.Nanos.{Nanos}
 use Rattle.frs_queue.specs.Queue.{placeOf}
+use Rattle.readiness.specs.declared.Cause.{Cause}
+use Rattle.readiness.specs.declared.Cause.the-variants.{LinkUp, Flr, D3hot}
+use Rattle.readiness.specs.declared.Phase.{Phase}
+use Rattle.readiness.specs.declared.Phase.the-variants.{Down, Pending, Ready}
 use Rattle.readiness.specs.declared.Status.{Status}
 use Rattle.readiness.specs.declared.Setup.{Setup}
 use Rattle.readiness.specs.declared.Dev.{Dev}
-use Rattle.readiness.specs.Status.{ready, down, allReady}
+use Rattle.readiness.specs.Status.{ready, down, readyPhase, isReady, allReady}
 use Rattle.records.specs.State.{State, statusAt}
 use Rattle.records.specs.CardRecords.{clockEnd}
-use Rattle.records.specs.Sound.{soundPhase, matchesLink, soundStatus, soundStatuses, soundCell, soundCells, soundOwed, sound, Sound, Fitting}
+use Rattle.records.specs.Sound.{phaseAt, soundCause, soundPhase, matchesLink, soundStatus, soundStatuses, soundCell, soundCells, soundOwed, sound, Sound, Fitting}
+
+-- ---- each clause of 5
+
+-- An FLR end isn't after its ready time.
+pub flr-end-exactly : (cause : Cause) (t : Nanos) → (soundCause cause t ≡ true) ↔ ((end : Nanos) → cause ≡ Flr end → end .0 ≤ t .0)
+flr-end-exactly LinkUp t = (λ e end q. let z : _≡_ {A = ℕ} 0 1 = cc in absurd (omega arith), λ f. refl)
+flr-end-exactly D3hot t = (λ e end q. let z : _≡_ {A = ℕ} 0 1 = cc in absurd (omega arith), λ f. refl)
+flr-end-exactly (Flr end) t =
+    (λ e other q. let same : end ≡ other = cc in subst (λ (x : Nanos). x .0 ≤ t .0) same (leb-true (end .0) (t .0) e), λ f. le-leb (end .0) (t .0) (f end refl))
+
+-- A Pending ready time is after the clock, and at most 1,006,632,960 after it.
+pub pending-exactly : (clock : Nanos) (cause : Cause) (t : Nanos)
+    → (soundPhase clock (Pending cause t) ≡ true) ↔ ((clock .0 < t .0) × (t .0 ≤ clock .0 + 1006632960) × ((end : Nanos) → cause ≡ Flr end → end .0 ≤ t .0))
+pending-exactly clock cause t = (holds, tested)
+  where
+    later : Bool
+    later = ltb (clock .0) (t .0)
+
+    most : Bool
+    most = leb (t .0) (clock .0 + 1006632960)
+
+    holds : (later && most && soundCause cause t) ≡ true → (clock .0 < t .0) × (t .0 ≤ clock .0 + 1006632960) × ((end : Nanos) → cause ≡ Flr end → end .0 ≤ t .0)
+    holds e =
+        let a = both-left (later && most) (soundCause cause t) e in (
+          ltb-true (clock .0) (t .0) (both-left later most a),
+          leb-true (t .0) (clock .0 + 1006632960) (both-right later most a),
+          flr-end-exactly cause t .0 (both-right (later && most) (soundCause cause t) e),
+        )
+
+    tested : (clock .0 < t .0) × (t .0 ≤ clock .0 + 1006632960) × ((end : Nanos) → cause ≡ Flr end → end .0 ≤ t .0) → (later && most && soundCause cause t) ≡ true
+    tested f = both _ _ (both _ _ (lt-ltb (clock .0) (t .0) (f .0)) (le-leb (t .0) (clock .0 + 1006632960) (f .1))) (flr-end-exactly cause t .1 (f .2))
+
+-- A Down slot only with the link down,
+pub down-exactly : (link : Bool) → (matchesLink link Down ≡ true) ↔ (link ≡ false)
+down-exactly true = (λ e. sym e, λ e. sym e)
+down-exactly false = (λ e. refl, λ e. refl)
+
+-- any other only with it up.
+pub other-exactly : (link : Bool) (p : Phase) → p ≢ Down → (matchesLink link p ≡ true) ↔ (link ≡ true)
+other-exactly link Down n = absurd (n refl)
+other-exactly link (Pending cause t) n = (λ e. e, λ e. e)
+other-exactly link Ready n = (λ e. e, λ e. e)
+
+ready-phase : (p : Phase) → readyPhase p ≡ true → p ≡ Ready
+ready-phase Down e = absurd (false≢true e)
+ready-phase (Pending cause t) e = absurd (false≢true e)
+ready-phase Ready e = refl
+
+-- all slots are Ready
+pub all-ready-exactly : (l : List Status) → (allReady l ≡ true) ↔ ((i : ℕ) → statusAt l i .phase ≡ Ready)
+unfolding allReady
+all-ready-exactly [] = (λ e i. refl, λ f. refl)
+all-ready-exactly (s ∷ l) = (holds (all-ready-exactly l .0), λ f. both (isReady s) (allReady l) (ap readyPhase (f 0)) (all-ready-exactly l .1 (λ i. f (suc i))))
+  where
+    holds : (allReady l ≡ true → (i : ℕ) → statusAt l i .phase ≡ Ready) → (isReady s && allReady l) ≡ true → (i : ℕ) → statusAt (s ∷ l) i .phase ≡ Ready
+    holds more e zero = ready-phase (s .phase) (both-left (isReady s) (allReady l) e)
+    holds more e (suc i) = more (both-right (isReady s) (allReady l) e) i
+
+owed-bits : (owed link all : Bool) → ((not owed || (link && not all)) ≡ true) ↔ (owed ≡ true → (link ≡ true) × (all ≡ true → ⊥))
+owed-bits false link all = (λ e o. absurd (false≢true o), λ f. refl)
+owed-bits true true false = (λ e o. (refl, false≢true), λ f. refl)
+owed-bits true true true = (λ e o. absurd (false≢true e), λ f. absurd (f refl .1 refl))
+owed-bits true false all = (λ e o. absurd (false≢true e), λ f. absurd (false≢true (f refl .0)))
+
+-- A DRS is owed only with the link up, and not with every slot Ready.
+pub owed-exactly : (d : Dev) (l : List Status)
+    → (soundOwed d l ≡ true) ↔ (d .owed ≡ true → (d .link ≡ true) × (((i : ℕ) → statusAt l i .phase ≡ Ready) → ⊥))
+owed-exactly d l =
+    let bits = owed-bits (d .owed) (d .link) (allReady l) in
+    (λ e o. (bits .0 e o .0, λ f. bits .0 e o .1 (all-ready-exactly l .1 f)), λ g. bits .1 (λ o. (g o .0, λ a. g o .1 (all-ready-exactly l .0 a))))
 
 -- ---- a test at every number below a bound
 
@@ -52,7 +127,61 @@ unfolding every soundCells
 cells-every zero cells start = refl
 cells-every (suc n) cells start = ap (λ (b : Bool). b && soundCell (getD cells (placeOf (length cells) start n) 0)) (cells-every n cells start)
 
--- ---- the test and the facts
+-- ---- the test and what 5 lists
+
+-- soundness by the tests of each slot
+pub by-tests : (setup : Setup) (s : State) → s .dev .clock .0 ≤ clockEnd → s .dev .queue .start < length (s .cells) → s .dev .queue .depth ≤ length (s .cells)
+    → ((k : ℕ) → k < s .dev .queue .depth → getD (s .cells) (placeOf (length (s .cells)) (s .dev .queue .start) k) 0 < 1048576) → s .dev .control .signalling ≤ 2
+    → ((i : ℕ) → i < setup .slots → soundPhase (s .dev .clock) (phaseAt s i) ≡ true) → ((i : ℕ) → i < setup .slots → matchesLink (s .dev .link) (phaseAt s i) ≡ true)
+    → soundOwed (s .dev) (s .statuses) ≡ true → Sound setup s
+by-tests setup s clock start depth cells signalling phases links owed =
+    record {
+      clock = clock;
+      start = start;
+      depth = depth;
+      cells = cells;
+      signalling = signalling;
+      later = λ i c t l e. pends i c t l e .0;
+      most = λ i c t l e. pends i c t l e .1;
+      flrEnd = λ i end t l e. pends i (Flr end) t l e .2 end refl;
+      linkDown = λ i l e. down-exactly (s .dev .link) .0 (subst (λ (p : Phase). matchesLink (s .dev .link) p ≡ true) e (links i l));
+      linkUp = λ i l n. other-exactly (s .dev .link) (phaseAt s i) n .0 (links i l);
+      owedLink = λ o. owed-exactly (s .dev) (s .statuses) .0 owed o .0;
+      owedSlots = λ o. owed-exactly (s .dev) (s .statuses) .0 owed o .1;
+    }
+  where
+    pends : (i : ℕ) (c : Cause) (t : Nanos) → i < setup .slots → phaseAt s i ≡ Pending c t
+        → (s .dev .clock .0 < t .0) × (t .0 ≤ s .dev .clock .0 + 1006632960) × ((end : Nanos) → c ≡ Flr end → end .0 ≤ t .0)
+    pends i c t l e = pending-exactly (s .dev .clock) c t .0 (subst (λ (p : Phase). soundPhase (s .dev .clock) p ≡ true) e (phases i l))
+
+ready-not-down : Ready ≡ Down → ⊥
+ready-not-down q = let z : _≡_ {A = ℕ} 0 1 = cc in omega arith
+
+pending-not-down : (c : Cause) (t : Nanos) → Pending c t ≡ Down → ⊥
+pending-not-down c t q = let z : _≡_ {A = ℕ} 0 1 = cc in omega arith
+
+-- the tests of a sound state
+module _ {setup : Setup} {s : State} (h : Sound setup s) where
+  pub phase-test : (i : ℕ) → i < setup .slots → soundPhase (s .dev .clock) (phaseAt s i) ≡ true
+  phase-test i l = by (phaseAt s i) refl
+    where
+      by : (p : Phase) → phaseAt s i ≡ p → soundPhase (s .dev .clock) p ≡ true
+      by Down e = refl
+      by Ready e = refl
+      by (Pending c t) e =
+          pending-exactly (s .dev .clock) c t .1
+          (h .later i c t l e, h .most i c t l e, λ end q. h .flrEnd i end t l (e ∙ ap (λ (x : Cause). Pending x t) q))
+
+  pub link-test : (i : ℕ) → i < setup .slots → matchesLink (s .dev .link) (phaseAt s i) ≡ true
+  link-test i l = by (phaseAt s i) refl
+    where
+      by : (p : Phase) → phaseAt s i ≡ p → matchesLink (s .dev .link) p ≡ true
+      by Down e = down-exactly (s .dev .link) .1 (h .linkDown i l e)
+      by Ready e = h .linkUp i l (λ q. ready-not-down (sym e ∙ q))
+      by (Pending c t) e = h .linkUp i l (λ q. pending-not-down c t (sym e ∙ q))
+
+  pub owed-test : soundOwed (s .dev) (s .statuses) ≡ true
+  owed-test = owed-exactly (s .dev) (s .statuses) .1 (λ o. (h .owedLink o, h .owedSlots o))
 
 -- A state that passes the test for refusal 5 is sound in every point.
 pub sound-facts : (setup : Setup) (s : State) → sound setup s ≡ true → Sound setup s
@@ -74,16 +203,10 @@ sound-facts setup s t =
     let tb : b ≡ true = both-left b _ tc in
     let slots = every-at (setup .slots) _ (sym (statuses-every (setup .slots) d (s .statuses)) ∙ both-right f _ tg) in
     let cells = every-at (q .depth) _ (sym (cells-every (q .depth) (s .cells) (q .start)) ∙ both-right c _ te) in
-    record {
-      clock = leb-true (d .clock .0) clockEnd (both-left a _ tb);
-      start = ltb-true (q .start) n (both-right a _ tb);
-      depth = leb-true (q .depth) n (both-right b _ tc);
-      cells = λ k h. ltb-true _ 1048576 (cells k h);
-      signalling = leb-true (d .control .signalling) 2 (both-right e _ tf);
-      phases = λ i h. both-left (soundPhase (d .clock) (statusAt (s .statuses) i .phase)) _ (slots i h);
-      links = λ i h. both-right (soundPhase (d .clock) (statusAt (s .statuses) i .phase)) _ (slots i h);
-      owed = both-right g (soundOwed d (s .statuses)) t;
-    }
+    by-tests setup s (leb-true (d .clock .0) clockEnd (both-left a _ tb)) (ltb-true (q .start) n (both-right a _ tb)) (leb-true (q .depth) n (both-right b _ tc))
+    (λ k h. ltb-true _ 1048576 (cells k h)) (leb-true (d .control .signalling) 2 (both-right e _ tf))
+    (λ i h. both-left (soundPhase (d .clock) (phaseAt s i)) _ (slots i h)) (λ i h. both-right (soundPhase (d .clock) (phaseAt s i)) _ (slots i h))
+    (both-right g (soundOwed d (s .statuses)) t)
 
 -- A state that is sound in every point passes the test.
 pub facts-sound : (setup : Setup) (s : State) → Sound setup s → sound setup s ≡ true
@@ -100,8 +223,12 @@ facts-sound setup s h =
     (le-leb (q .depth) (length (s .cells)) (h .depth)))
     (cells-every (q .depth) (s .cells) (q .start) ∙ every-of (q .depth) _ (λ k l. lt-ltb _ 1048576 (h .cells k l))))
     (le-leb (d .control .signalling) 2 (h .signalling)))
-    (statuses-every (setup .slots) d (s .statuses) ∙ every-of (setup .slots) _ (λ i l. both _ _ (h .phases i l) (h .links i l))))
-    (h .owed)
+    (statuses-every (setup .slots) d (s .statuses) ∙ every-of (setup .slots) _ (λ i l. both _ _ (phase-test h i l) (link-test h i l))))
+    (owed-test h)
+
+-- Refusal 5, the carried bytes aside: the test passes exactly on a sound state.
+pub sound-exactly : (setup : Setup) (s : State) → (sound setup s ≡ true) ↔ Sound setup s
+sound-exactly setup s = (sound-facts setup s, facts-sound setup s)
 
 -- ---- states that are sound
 
@@ -110,16 +237,10 @@ pub down-sound : (setup : Setup) (s : State) → s .dev .clock .0 ≤ clockEnd �
     → s .dev .link ≡ false → s .dev .owed ≡ false → s .dev .queue .start ≡ 0 → s .dev .queue .depth ≡ 0
     → ((i : ℕ) → i < setup .slots → statusAt (s .statuses) i ≡ down) → Sound setup s
 down-sound setup s clock some signalling link owed start depth slots =
-    record {
-      clock = clock;
-      start = omega arith;
-      depth = omega arith;
-      cells = λ k h. absurd (omega arith);
-      signalling = signalling;
-      phases = λ i h. ap (λ (v : Status). soundPhase (s .dev .clock) (v .phase)) (slots i h);
-      links = λ i h. ap (λ (v : Status). matchesLink (s .dev .link) (v .phase)) (slots i h) ∙ ap not link;
-      owed = ap (λ (b : Bool). not b || (s .dev .link && not (allReady (s .statuses)))) owed;
-    }
+    by-tests setup s clock (omega arith) (omega arith) (λ k h. absurd (omega arith)) signalling
+    (λ i h. ap (λ (v : Status). soundPhase (s .dev .clock) (v .phase)) (slots i h))
+    (λ i h. ap (λ (v : Status). matchesLink (s .dev .link) (v .phase)) (slots i h) ∙ ap not link)
+    (ap (λ (b : Bool). not b || (s .dev .link && not (allReady (s .statuses)))) owed)
 
 -- One status per slot and 64 registers per slot: the state fits the set-up.
 pub exact-fits : (setup : Setup) (defaults : List ℕ) (s : State) → 0 < setup .slots → setup .slots ≤ 32 → length (s .statuses) ≡ setup .slots

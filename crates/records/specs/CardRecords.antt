@@ -6,7 +6,7 @@ use mathlib.Core.List.{List}
 use lib.Dec.{leb}
 use Rattle.times.specs.declared.Nanos.{Nanos}
 use Rattle.times.specs.Moments.{sumOf}
-use Rattle.registers.specs.Functions.{linkResetAll, coldReset}
+use Rattle.config_space.specs.Functions.{linkResetAll, coldReset}
 use Rattle.frs_queue.specs.Queue.{noTally}
 use Rattle.readiness.specs.declared.Setup.{Setup}
 use Rattle.readiness.specs.declared.Dev.{Dev}

@@ -10,7 +10,7 @@ use Rattle.registers.specs.declared.Kind.{Kind}
 use Rattle.registers.specs.declared.Kind.the-variants.{Endpoint}
 use Rattle.registers.specs.Rows.{startsFlr}
 use Rattle.registers.specs.Words.{readWord, writeWord, hardwareSet, powerState}
-use Rattle.registers.specs.Functions.{linkResetSlot, flrResetSlot}
+use Rattle.config_space.specs.Functions.{linkResetSlot, flrResetSlot}
 use Rattle.frs_queue.specs.Queue.{noTally}
 use Rattle.readiness.specs.declared.Slot.{Slot}
 use Rattle.readiness.specs.declared.Status.{Status}

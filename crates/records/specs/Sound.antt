@@ -1,6 +1,7 @@
 -- Soundness of port and statuses (01, "Numbers given for no", refusal 5), but for the carried bytes.
 -- Assumes nothing.
 use Prim.Native.Nat.{ℕ, suc, _+_, _*_, _≤_, _<_}
+use mathlib.Core.Logic.{_≢_}
 use mathlib.Core.Path.{_≡_}
 use mathlib.Core.Bool.{Bool, true, false, not, _&&_, _||_, cond}
 use mathlib.Core.List.{List, [], _∷_}
@@ -20,6 +21,11 @@ use Rattle.readiness.specs.Status.{ready, allReady}
 use Rattle.records.specs.State.{State, statusAt}
 use Rattle.records.specs.CardRecords.{clockEnd}
 
+-- a slot's phase
+abbrev pub phaseAt : State → ℕ → Phase
+phaseAt s i = statusAt (s .statuses) i .phase
+
+-- ---- the test for refusal 5
 -- an FLR end isn't after its ready time
 abbrev pub soundCause : Cause → Nanos → Bool
 soundCause LinkUp t = true
@@ -58,7 +64,7 @@ soundCells (suc n) cells start = soundCells n cells start && soundCell (getD cel
 abbrev pub soundOwed : Dev → List Status → Bool
 soundOwed d l = not (d .owed) || (d .link && not (allReady l))
 
--- the test for refusal 5
+-- all of it
 unfoldable pub sound : Setup → State → Bool
 sound setup s =
     let d = s .dev in
@@ -71,16 +77,28 @@ sound setup s =
     && soundStatuses (setup .slots) d (s .statuses)
     && soundOwed d (s .statuses)
 
--- the same as named facts
+-- nothing that 5 lists, point by point
 pub record Sound (setup : Setup) (s : State) : Type 0 where
+  -- the clock is at most 10^15
   pub clock : s .dev .clock .0 ≤ clockEnd
+  -- the queue's start is below its length, its depth at most that
   pub start : s .dev .queue .start < length (s .cells)
   pub depth : s .dev .queue .depth ≤ length (s .cells)
+  -- a live cell is below 2^20
   pub cells : (k : ℕ) → k < s .dev .queue .depth → getD (s .cells) (placeOf (length (s .cells)) (s .dev .queue .start) k) 0 < 1048576
+  -- signalling isn't 3
   pub signalling : s .dev .control .signalling ≤ 2
-  pub phases : (i : ℕ) → i < setup .slots → soundPhase (s .dev .clock) (statusAt (s .statuses) i .phase) ≡ true
-  pub links : (i : ℕ) → i < setup .slots → matchesLink (s .dev .link) (statusAt (s .statuses) i .phase) ≡ true
-  pub owed : soundOwed (s .dev) (s .statuses) ≡ true
+  -- a Pending slot's ready time is after the clock, and at most 1,006,632,960 after it
+  pub later : (i : ℕ) (cause : Cause) (t : Nanos) → i < setup .slots → phaseAt s i ≡ Pending cause t → s .dev .clock .0 < t .0
+  pub most : (i : ℕ) (cause : Cause) (t : Nanos) → i < setup .slots → phaseAt s i ≡ Pending cause t → t .0 ≤ s .dev .clock .0 + 1006632960
+  -- an FLR end isn't after its ready time
+  pub flrEnd : (i : ℕ) (end t : Nanos) → i < setup .slots → phaseAt s i ≡ Pending (Flr end) t → end .0 ≤ t .0
+  -- a Down slot only with the link down, any other only with it up
+  pub linkDown : (i : ℕ) → i < setup .slots → phaseAt s i ≡ Down → s .dev .link ≡ false
+  pub linkUp : (i : ℕ) → i < setup .slots → phaseAt s i ≢ Down → s .dev .link ≡ true
+  -- a DRS is owed only with the link up, and not with every slot Ready
+  pub owedLink : s .dev .owed ≡ true → s .dev .link ≡ true
+  pub owedSlots : s .dev .owed ≡ true → ((i : ℕ) → phaseAt s i ≡ Ready) → ⊥
 
 -- the card's slots, their registers, and nothing but Ready past the last slot
 pub record Fitting (setup : Setup) (defaults : List ℕ) (s : State) : Type 0 where

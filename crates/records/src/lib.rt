@@ -1,4 +1,4 @@
-// The thirteen records: their types, and in specs/ what each does to the device and how it is answered.
+// The thirteen records and the port state: their types, and in specs/ what each record does to the device and how it is answered.
 
 use frs_queue::Queue;
 use frs_queue::Tally;
@@ -129,4 +129,12 @@ pub enum Started {
 pub struct QueueDone {
     pub queue: Queue,
     pub reply: Reply,
+}
+
+// The port state: the device's part, the bytes of an incomplete record, how many they are, and whether the trace is broken.
+pub struct Port {
+    pub dev: Dev,
+    pub carried: [u8; 16],
+    pub carried_len: usize,
+    pub broken: bool,
 }

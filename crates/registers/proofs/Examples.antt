@@ -2,15 +2,10 @@
 -- Assumes nothing.
 use mathlib.Core.Path.{_≡_, refl}
 use mathlib.Core.Bool.{true, false}
-use mathlib.Core.List.{[], _∷_}
-use Prim.Native.Nat.{_+_}
-use lib.ListN.{getD, replicate}
 use Rattle.bits.specs.Bits.{bit, number, word}
-use Rattle.bits.specs.Lists.{listed, replaced}
 use Rattle.registers.specs.declared.Kind.the-variants.{Endpoint}
 use Rattle.registers.specs.Rows.{endpointRow, rowOf, readsZero, defaultMustBeZero, defaultAllowed, startsFlr}
 use Rattle.registers.specs.Words.{laneMask, readWord, writeBit, writeWord, resetBit, linkReset, flrReset, hardwareSet}
-use Rattle.registers.specs.Functions.{writeSlotWord, resetWhere, linkResetSlot, flrResetSlot, linkResetAll, coldReset}
 use Rattle.registers.proofs.Rules.{noBits}
 
 -- ---- rows
@@ -123,11 +118,6 @@ pub pme-survives-flr : flrReset Endpoint 0x11 0x0000810B 0x00000008 ≡ 0x000081
 unfolding flrReset resetBit word number rowOf endpointRow bit
 pme-survives-flr = refl
 
--- not cold reset
-pub pme-not-cold-reset : coldReset (0x0000810B ∷ []) (0x00000008 ∷ []) ≡ 0x00000008 ∷ []
-unfolding coldReset resetWhere replaced listed
-pme-not-cold-reset = refl
-
 -- ---- hardware
 
 -- mask bits in C are set, no others
@@ -172,42 +162,3 @@ default-others = refl
 pub default-any-word : defaultAllowed Endpoint 0x1D 0xFFFFFFFF ≡ true
 unfolding defaultAllowed defaultMustBeZero word number bit
 default-any-word = refl
-
--- ---- slots
-
--- an FLR of slot 1 resets its cache line and not that of slot 0
-pub flr-slot-own : getD (flrResetSlot Endpoint 1 (replicate 128 0xFFFFFFFF) (replicate 128 0)) (64 + 3) 0 ≡ 0xFFFFFF00
-unfolding flrResetSlot resetWhere replaced listed flrReset resetBit word number rowOf endpointRow bit
-flr-slot-own = refl
-
-pub flr-slot-other : getD (flrResetSlot Endpoint 1 (replicate 128 0xFFFFFFFF) (replicate 128 0)) 3 0 ≡ 0xFFFFFFFF
-unfolding flrResetSlot resetWhere replaced listed flrReset resetBit word number rowOf endpointRow bit
-flr-slot-other = refl
-
--- link down resets both
-pub link-down-first : getD (linkResetAll Endpoint (replicate 128 0xFFFFFFFF) (replicate 128 0)) 3 0 ≡ 0xFFFFFF00
-unfolding linkResetAll resetWhere replaced listed linkReset resetBit word number rowOf endpointRow bit
-link-down-first = refl
-
-pub link-down-second : getD (linkResetAll Endpoint (replicate 128 0xFFFFFFFF) (replicate 128 0)) (64 + 3) 0 ≡ 0xFFFFFF00
-unfolding linkResetAll resetWhere replaced listed linkReset resetBit word number rowOf endpointRow bit
-link-down-second = refl
-
--- words that only one of the lists has stay, and none are added
-pub link-down-short : linkResetAll Endpoint (7 ∷ 7 ∷ 7 ∷ []) (0 ∷ 0 ∷ []) ≡ 7 ∷ 0 ∷ 7 ∷ []
-unfolding linkResetAll resetWhere replaced listed linkReset resetBit word number rowOf endpointRow bit
-link-down-short = refl
-
--- a slot that isn't lent
-pub link-down-no-slot : linkResetSlot Endpoint 1 (7 ∷ 7 ∷ []) (0 ∷ 0 ∷ []) ≡ 7 ∷ 7 ∷ []
-unfolding linkResetSlot resetWhere replaced listed
-link-down-no-slot = refl
-
--- a write to the cache line of slot 1, and to a word that isn't lent
-pub write-second-slot : getD (writeSlotWord Endpoint 1 3 (replicate 128 0) 0xFFFFFFFF 15) (64 + 3) 0 ≡ 0x000000FF
-unfolding writeSlotWord writeWord writeBit word number rowOf endpointRow bit
-write-second-slot = refl
-
-pub write-no-word : writeSlotWord Endpoint 1 3 (7 ∷ 7 ∷ []) 0xFFFFFFFF 15 ≡ 7 ∷ 7 ∷ []
-unfolding writeSlotWord
-write-no-word = refl

@@ -15,7 +15,7 @@ use Rattle.registers.specs.declared.Kind.{Kind}
 use Rattle.registers.specs.declared.Kind.the-variants.{Endpoint}
 use Rattle.registers.specs.Rows.{rowOf, endpointRow, isW, isC, isS, isK, lawful, readsZero, defaultMustBeZero, defaultAllowed, startsFlr}
 use Rattle.registers.specs.Words.{laneMask, powerState, stays, heldBit, readWord, writeBit, writeWord, resetBit, linkReset, flrReset, hardwareSet}
-use Rattle.registers.proofs.Rules.{noBits, row-past}
+use Rattle.registers.proofs.Rules.{every-kind, noBits, row-past}
 
 -- ---- the rule of rows
 
@@ -25,7 +25,7 @@ lawfulAt kind i k = lawful (isW kind i k) (isC kind i k) (isS kind i k) (isK kin
 -- the one test, over all rows of every kind
 tested : (kind : Kind) → T (all 64 (λ i. all 32 (lawfulAt kind i)))
 unfolding lawfulAt rowOf endpointRow bit
-tested Endpoint = tt
+tested = every-kind (λ kind. all 64 (λ i. all 32 (lawfulAt kind i))) tt
 
 none-lawful : (k : ℕ) → T (lawful (bit (noBits .w) k) (bit (noBits .c) k) (bit (noBits .s) k) (bit (noBits .k) k))
 none-lawful k = rw (bit-none k) tt
@@ -257,7 +257,7 @@ fixedAt kind i k = fixed (bit (readsZero kind i) k) (isW kind i k) (isC kind i k
 
 fixed-tested : (kind : Kind) → T (all 64 (λ i. all 32 (fixedAt kind i)))
 unfolding fixedAt rowOf endpointRow readsZero defaultMustBeZero bit
-fixed-tested Endpoint = tt
+fixed-tested = every-kind (λ kind. all 64 (λ i. all 32 (fixedAt kind i))) tt
 
 zero-past : (kind : Kind) (i : ℕ) → 64 ≤ i → readsZero kind i ≡ 0
 unfolding readsZero

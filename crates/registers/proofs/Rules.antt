@@ -1,20 +1,27 @@
 -- Each definition by kind and word as the code computes it, and each operation's bit as the code computes it.
 -- Assumes nothing.
-use mathlib.Core.Path.{_≡_, refl, sym, subst, _∙_}
+use mathlib.Core.Path.{_≡_, refl, ap, _∙_}
 use mathlib.Core.Bool.{Bool, true, false, not, _&&_, _||_, cond}
 use mathlib.Core.List.{List, [], _∷_}
-use Prim.Native.Nat.{ℕ, _*_, _<_, _≤_}
+use Prim.Native.Nat.{ℕ, _+_, _*_, _/_, _%_, _<_, _≤_}
 use native.Mathlib.Omega.{arith}
 use lib.Dec.{T, eqb, eqb→eq, ltb, ltb→lt}
-use borrow.Author.Tests.{ne-eqb, ltb-true, ltb-false}
+use lib.ListN.{getD}
+use borrow.Author.Tests.{ne-eqb}
 use Rattle.bits.specs.Bits.{bit}
-use Rattle.bits.proofs.Bits.{bit-none, word-none}
+use Rattle.bits.proofs.Bits.{bit-none, bit-word, word-ext, word-none}
 use Rattle.bits.proofs.Tests.{all, all-at, and-left, and-right, truth}
 use Rattle.registers.specs.declared.Row.{Row}
 use Rattle.registers.specs.declared.Kind.{Kind}
 use Rattle.registers.specs.declared.Kind.the-variants.{Endpoint}
-use Rattle.registers.specs.Rows.{Line, line, endpointTable, find, endpointRow, rowOf, pmcsr, deviceControl, deviceZeros, powerStateBits, flrByte, initiateFlr, flrCapable, readsZero, defaultMustBeZero, startsFlr}
-use Rattle.registers.specs.Words.{writeBit, resetBit, readWord}
+use Rattle.registers.specs.Rows.{Line, line, endpointTable, find, endpointRow, rowOf, masks, startOf, column, pmcsr, deviceControl, deviceZeros, powerStateBits, flrByte, initiateFlr, flrCapable, readsZero, defaultMustBeZero, startsFlr}
+use Rattle.registers.specs.Words.{writeBit, resetBit, readWord, linkMask, flrMask, withDefaults, linkReset, flrReset}
+
+-- ---- kinds
+
+-- a test that every kind passes
+pub every-kind : (test : Kind → Bool) → T (test Endpoint) → (kind : Kind) → T (test kind)
+every-kind test t Endpoint = t
 
 -- ---- rows
 
@@ -35,36 +42,47 @@ past (line o w c s k ∷ ls) t offset h =
     rw n (past ls (and-right (ltb o 256) (within ls) t) offset h)
 
 -- no bit has an attribute above word 63
-pub endpoint-past : (i : ℕ) → 64 ≤ i → endpointRow i ≡ noBits
-unfolding endpointRow endpointTable within
-endpoint-past i h = past endpointTable tt (i * 4) (omega arith)
-
--- of a test that the words below 64 pass: a word passes it that would with no bits
-every-row : (test : ℕ → Row → Bool) → T (all 64 (λ i. test i (endpointRow i))) → (i : ℕ) → T (test i noBits) → T (test i (endpointRow i))
-every-row test t i z =
-    let by : (b : Bool) → ltb i 64 ≡ b → T (test i (endpointRow i)) =
-    elim [
-      | true ↦ λ l. all-at 64 (λ i. test i (endpointRow i)) t i (ltb-true i 64 l)
-      | false ↦ λ l. subst (λ (r : Row). T (test i r)) (sym (endpoint-past i (ltb-false i 64 l))) z
-    ] in
-    by (ltb i 64) refl
-
--- a mask that is 0 at every word below 64 but some is 0 at every other word: one test over the table
-pub none-else : (mask : Row → ℕ) (some : ℕ → Bool) → T (all 64 (λ i. some i || eqb (mask (endpointRow i)) 0)) → mask noBits ≡ 0
-    → (i : ℕ) → some i ≡ false → 0 ≡ mask (endpointRow i)
-none-else mask some t z i e = sym (eqb→eq _ 0 (rw e at (every-row (λ i r. some i || eqb (mask r) 0) t i (rw (e, z) tt))))
-
--- W has 32 bits
-pub w-fits : (i : ℕ) → endpointRow i .w < 4294967296
-unfolding endpointRow
-w-fits i = ltb→lt _ _ (every-row (λ i r. ltb (r .w) 4294967296) tt i tt)
-
-pub row-of-kind : (kind : Kind) (i : ℕ) → endpointRow i ≡ rowOf kind i
-unfolding rowOf
-row-of-kind Endpoint i = refl
-
 pub row-past : (kind : Kind) (i : ℕ) → 64 ≤ i → rowOf kind i ≡ noBits
-row-past kind i h = sym (row-of-kind kind i) ∙ endpoint-past i h
+unfolding rowOf endpointRow endpointTable within
+row-past Endpoint i h = past endpointTable tt (i * 4) (omega arith)
+
+-- ---- the full table has the rows of the definition
+
+right : Kind → ℕ → Bool
+right kind n = eqb (getD masks (startOf kind + n) 0) (column (n % 4) (rowOf kind (n / 4)))
+
+-- one test of all masks
+masks-tested : (kind : Kind) → T (all 256 (right kind))
+unfolding right masks rowOf endpointRow
+masks-tested = every-kind (λ kind. all 256 (right kind)) tt
+
+mask-at : (kind : Kind) (i j m : ℕ) → i < 64 → j < 4 → m ≡ startOf kind + i * 4 + j → getD masks m 0 ≡ column j (rowOf kind i)
+unfolding right
+mask-at kind i j m hi hj e =
+    let n : ℕ = i * 4 + j in
+    let a : m ≡ startOf kind + n = omega arith in
+    let b : n / 4 ≡ i = omega arith in
+    let d : n % 4 ≡ j = omega arith in
+    let t : getD masks (startOf kind + n) 0 ≡ column (n % 4) (rowOf kind (n / 4)) = eqb→eq _ _ (all-at 256 (right kind) (masks-tested kind) n (omega arith)) in
+    ap (λ (m : ℕ). getD masks m 0) a ∙ (rw (b, d) at t)
+
+pub starts-at : (kind : Kind) → 0 ≡ startOf kind
+starts-at Endpoint = refl
+
+-- what four entries of a list say
+abbrev pub rowFrom : List ℕ → ℕ → Row
+rowFrom t j = record { w = getD t j 0; c = getD t (j + 1) 0; s = getD t (j + 2) 0; k = getD t (j + 3) 0 }
+
+pub row-in : (t : List ℕ) (kind : Kind) (i j : ℕ) → t ≡ masks → j ≡ startOf kind → i < 64 → rowFrom t (j + i * 4) ≡ rowOf kind i
+row-in t kind i j e d h =
+    let m : ℕ = startOf kind + i * 4 in
+    rw (e, d)
+    (λ x. record {
+      w = mask-at kind i 0 m h (omega arith) (omega arith) x;
+      c = mask-at kind i 1 (m + 1) h (omega arith) (omega arith) x;
+      s = mask-at kind i 2 (m + 2) h (omega arith) (omega arith) x;
+      k = mask-at kind i 3 (m + 3) h (omega arith) (omega arith) x;
+    })
 
 -- ---- what stands behind a name by kind and word
 
@@ -91,6 +109,15 @@ write-bit = truth 5 _ _ tt
 pub reset-bit : (takes live default : Bool) → ((live && not takes) || (default && takes)) ≡ resetBit takes live default
 unfolding resetBit
 reset-bit = truth 3 _ _ tt
+
+-- a reset by the mask of those bits that take their defaults is the reset
+pub link-by-mask : (kind : Kind) (i live default : ℕ) → withDefaults (linkMask kind i) live default ≡ linkReset kind i live default
+unfolding withDefaults linkMask linkReset
+link-by-mask kind i live default = word-ext λ k h. rw bit-word refl
+
+pub flr-by-mask : (kind : Kind) (i live default : ℕ) → withDefaults (flrMask kind i) live default ≡ flrReset kind i live default
+unfolding withDefaults flrMask flrReset
+flr-by-mask kind i live default = word-ext λ k h. rw bit-word refl
 
 -- a word that is 0 reads 0
 pub read-none : (kind : Kind) (i enables : ℕ) → readWord kind i 0 enables ≡ 0

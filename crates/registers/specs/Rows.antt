@@ -1,6 +1,6 @@
 -- The attributes of the words of configuration space, by a slot's kind and a word's number.
 -- Assumes nothing.
-use Prim.Native.Nat.{ℕ, _*_, _/_}
+use Prim.Native.Nat.{ℕ, zero, suc, _*_, _/_}
 use mathlib.Core.Bool.{Bool, not, _&&_, _||_, cond}
 use mathlib.Core.List.{List, [], _∷_}
 use lib.Dec.{eqb}
@@ -42,6 +42,20 @@ endpointRow i = find endpointTable (i * 4)
 -- the row of word i
 unfoldable pub rowOf : Kind → ℕ → Row
 rowOf Endpoint i = endpointRow i
+
+-- the masks W, C, S, K of n words in a row, from word i on
+unfoldable pub flat : (ℕ → Row) → (i n : ℕ) → List ℕ
+flat f i zero = []
+flat f i (suc n) = f i .w ∷ f i .c ∷ f i .s ∷ f i .k ∷ flat f (suc i) n
+
+-- the full table: 64 rows of four masks for each kind
+unfoldable pub masks : List ℕ
+unfolding rowOf endpointRow flat
+masks = flat (rowOf Endpoint) 0 64
+
+-- where the masks of a kind start
+abbrev pub startOf : Kind → ℕ
+startOf Endpoint = 0
 
 -- a row's masks in order
 abbrev pub column : ℕ → Row → ℕ

@@ -2,17 +2,17 @@
 use crate::session::Session;
 use desk::printing::Waiting;
 use desk::printing::end_line;
+use line_text::text::put_text;
 use readiness::Control;
 use readiness::Dev;
 use readiness::Status;
-use words::state_words::put_link;
-use words::state_words::put_port_bits;
-use words::state_words::put_port_control;
-use words::state_words::put_queue;
-use words::state_words::put_queued;
-use words::state_words::put_slot;
-use words::text::put_text;
-use words::trace_words::put_end;
+use state_lines::state_words::put_link;
+use state_lines::state_words::put_port_bits;
+use state_lines::state_words::put_port_control;
+use state_lines::state_words::put_queue;
+use state_lines::state_words::put_queued;
+use state_lines::state_words::put_slot;
+use trace_lines::trace_words::put_end;
 
 fn print_end(printed: &mut [u8], w: Waiting, s: Session) -> Waiting {
     let port = s.port;

@@ -2,18 +2,18 @@
 use desk::trace_file::Fault;
 use desk::trace_file::size_of;
 use feed::Fed;
-use feed::Port;
-use feed::SetUp;
 use frs_queue::Queue;
+use line_text::numbers::at_most;
+use line_text::numbers::byte_at;
+use line_text::numbers::plus;
+use line_text::numbers::wide;
 use readiness::Control;
 use readiness::Dev;
 use readiness::Phase;
 use readiness::Setup;
 use readiness::Status;
-use words::numbers::at_most;
-use words::numbers::byte_at;
-use words::numbers::plus;
-use words::numbers::wide;
+use records::Port;
+use set_up::SetUp;
 
 // The bench, and how far the trace is: whether there is more to feed, the last call's number and counts, the byte that it stopped
 // at, and all bytes consumed and records run.

@@ -17,12 +17,12 @@ use desk::trace_file::passed;
 use desk::trace_file::read_piece;
 use desk::trace_file::size_of;
 use desk::trace_file::take;
+use line_text::numbers::at_most;
+use line_text::numbers::wide;
 use readiness::Setup;
-use words::numbers::at_most;
-use words::numbers::wide;
-use words::trace_words::put_incomplete;
-use words::trace_words::put_run;
-use words::trace_words::put_unknown;
+use trace_lines::trace_words::put_incomplete;
+use trace_lines::trace_words::put_run;
+use trace_lines::trace_words::put_unknown;
 
 // Where the trace comes from and where the answers go (-1: nowhere), whether only the end is printed, and whether standard error shows
 // how far it is.

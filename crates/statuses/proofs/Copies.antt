@@ -12,7 +12,7 @@ use borrow.Author.Tests.{leb-true, leb-false}
 use Rattle.trace.proofs.Tests.{split}
 use Rattle.readiness.specs.declared.Status.{Status}
 use Rattle.readiness.specs.Status.{ready}
-use Rattle.feed.specs.Held.{lentOf}
+use Rattle.demand3.specs.Held.{lentOf}
 use Rattle.statuses.specs.Statuses.{storedOver}
 
 pub by-le : {P : Type 0} (n m : ℕ) → (n ≤ m → P) → (m < n → P) → P

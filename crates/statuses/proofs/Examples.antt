@@ -5,7 +5,7 @@ use mathlib.Core.List.{List, [], _∷_, _++_}
 use lib.ListN.{length, getD, set, replicate}
 use Rattle.readiness.specs.declared.Status.{Status}
 use Rattle.readiness.specs.Status.{ready, down}
-use Rattle.feed.specs.Held.{lentOf}
+use Rattle.demand3.specs.Held.{lentOf}
 use Rattle.statuses.specs.Statuses.{storedOver}
 
 -- one status is lent: it is copied, and 31 are Ready

@@ -8,7 +8,7 @@ use lib.ListN.{length, getD, set, take, replicate}
 use lib.Seq.{getD-set-same, set-out}
 use Rattle.readiness.specs.declared.Status.{Status}
 use Rattle.readiness.specs.Status.{ready}
-use Rattle.feed.specs.Held.{lentOf}
+use Rattle.demand3.specs.Held.{lentOf}
 
 -- A STATUS THAT WAS REPLACED is read back
 pub replaced-at : (l : List Status) (slot : ℕ) (s past : Status) → slot < length l → getD (set l slot s) slot past ≡ s

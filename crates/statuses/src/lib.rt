@@ -3,7 +3,7 @@ ghost use mathlib.Core.Path.{_≡_};
 ghost use Prim.Native.Nat.{_<_, min};
 ghost use lib.ListN.{length, getD, set, replicate};
 ghost use Rattle.readiness.specs.Status.{ready, down};
-ghost use Rattle.feed.specs.Held.{lentOf};
+ghost use Rattle.demand3.specs.Held.{lentOf};
 ghost use Rattle.statuses.specs.Statuses.{storedOver};
 use readiness::Phase;
 use readiness::Status;

@@ -5,23 +5,23 @@ use desk::printing::end_line;
 use desk::printing::flush_out;
 use desk::printing::nothing_waits;
 use hex::Packed;
+use line_text::numbers::at_most;
+use line_text::numbers::byte_at;
+use line_text::numbers::wide;
+use line_text::numbers::wide8;
+use line_text::text::LINE;
+use line_text::text::put_byte;
+use line_text::text::put_bytes;
+use line_text::text::put_hex2;
+use line_text::text::put_named;
+use line_text::text::put_text;
 use messages::Message;
 use usage::arguments::arg_count;
 use usage::arguments::arg_is;
 use usage::arguments::bad_usage;
 use usage::outcome::Outcome;
 use usage::outcome::unless_error;
-use words::numbers::at_most;
-use words::numbers::byte_at;
-use words::numbers::wide;
-use words::numbers::wide8;
 use words::record_words::put_message;
-use words::text::LINE;
-use words::text::put_byte;
-use words::text::put_bytes;
-use words::text::put_hex2;
-use words::text::put_named;
-use words::text::put_text;
 
 // Prints the line whose end is at `end`; 0, or the error.
 fn print_line(line: &mut [u8], end: usize) -> i32 {

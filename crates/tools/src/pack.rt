@@ -13,13 +13,13 @@ use desk::trace_file::read_piece;
 use hex::Packed;
 use hex::Packing;
 use hex::Within;
+use line_text::numbers::at_most;
+use line_text::numbers::plus;
+use line_text::numbers::wide;
+use line_text::text::LINE;
+use line_text::text::put_named;
+use line_text::text::put_text;
 use usage::outcome::Outcome;
-use words::numbers::at_most;
-use words::numbers::plus;
-use words::numbers::wide;
-use words::text::LINE;
-use words::text::put_named;
-use words::text::put_text;
 
 // ---- The file
 

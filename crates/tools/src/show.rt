@@ -16,14 +16,14 @@ use desk::trace_file::nothing_read;
 use desk::trace_file::passed;
 use desk::trace_file::read_piece;
 use desk::trace_file::take;
+use line_text::numbers::plus;
+use line_text::numbers::wide;
+use trace_lines::trace_words::put_incomplete;
+use trace_lines::trace_words::put_shown;
+use trace_lines::trace_words::put_totals;
+use trace_lines::trace_words::put_unknown;
 use usage::outcome::Outcome;
 use usage::outcome::unless_error;
-use words::numbers::plus;
-use words::numbers::wide;
-use words::trace_words::put_incomplete;
-use words::trace_words::put_shown;
-use words::trace_words::put_totals;
-use words::trace_words::put_unknown;
 
 // How far the reading is: bytes and records shown, what was read, and what waits to be written.
 pub struct Showing {

@@ -5,3 +5,4 @@ pub mod Locals
 pub mod Fronts
 pub mod Items
 pub mod Total
+pub mod Frees

@@ -1,4 +1,1 @@
-pub mod Putting
-mod Numerals
-pub mod Laws
-mod Examples
+pub mod Examples

@@ -9,7 +9,7 @@ use Rattle.messages.specs.declared.Message.the-variants.{Drs, Frs, NotReadiness
 use Rattle.records.specs.declared.Request.{Request}
 use Rattle.records.specs.declared.Record.{Record}
 use Rattle.records.specs.declared.Record.the-variants.{Advance, Read, Write, Message as OfMessage, LinkUp, LinkDown, ColdReset, ReadQueue, RemoveOldest, ClearBits, Control, HardwareSet, ReadBits, NoKind}
-use Rattle.words.specs.Text.{chars, hexOf, named, textIf}
+use Rattle.line_text.specs.Text.{chars, hexOf, named, textIf}
 
 -- ---- parts
 

@@ -1,16 +1,16 @@
 // A record in words, and a readiness message.
 ghost use mathlib.Core.Path.{_≡_};
-ghost use Rattle.words.specs.Line.{Put};
+ghost use Rattle.line_text.specs.Line.{Put};
 ghost use Rattle.words.specs.Records.{idText, wordText, offsetOf, offsetText, placeText, enablesText, switchText, signallingMeaning, signallingText, reasonMeaning, frsText, drsText, messageText, advanceText, requestText, writeText, messageRecordText, listedText, bitsText, clearText, controlText, hardwareText, kindOf, recordText};
-use crate::text::put_either;
-use crate::text::put_hex1;
-use crate::text::put_hex2;
-use crate::text::put_hex3;
-use crate::text::put_hex4;
-use crate::text::put_hex8;
-use crate::text::put_if;
-use crate::text::put_named;
-use crate::text::put_text;
+use line_text::text::put_either;
+use line_text::text::put_hex1;
+use line_text::text::put_hex2;
+use line_text::text::put_hex3;
+use line_text::text::put_hex4;
+use line_text::text::put_hex8;
+use line_text::text::put_if;
+use line_text::text::put_named;
+use line_text::text::put_text;
 use messages::Message;
 use records::Record;
 use records::Request;

@@ -52,12 +52,12 @@ use Rattle.walks.proofs.Walks.{before, before-plain, after}
 use Rattle.walks.proofs.Lent.{at-list}
 use Rattle.walks.proofs.Locals.{lend-local, back-local}
 use Rattle.walks.proofs.Fronts.{lend-front, back-front}
-use Rattle.feed.specs.declared.Port.{Port}
+use Rattle.records.specs.declared.Port.{Port}
 use Rattle.feed.specs.declared.Fed.{Fed}
-use Rattle.feed.specs.Held.{held}
-use Rattle.feed.specs.Feeding.{feeds}
-use Rattle.feed.proofs.Port as P
-use Rattle.feed.proofs.Port.Laws as P′
+use Rattle.demand3.specs.Held.{held}
+use Rattle.demand3.specs.Feeding.{feeds}
+use Rattle.records.proofs.Port as P
+use Rattle.records.proofs.Port.Laws as P′
 use Rattle.feed.proofs.Fed as R
 use Rattle.feed.proofs.Fed.Laws as R′
 use Rattle.bench.specs.Entries.{leftByFeed}

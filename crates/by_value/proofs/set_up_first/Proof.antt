@@ -52,14 +52,14 @@ use Rattle.walks.proofs.Walks.{before, before-plain, after}
 use Rattle.walks.proofs.Lent.{at-list}
 use Rattle.walks.proofs.Locals.{lend-local, back-local}
 use Rattle.walks.proofs.Fronts.{lend-front, back-front}
-use Rattle.feed.specs.declared.Port.{Port}
-use Rattle.feed.specs.declared.SetUp.{SetUp}
-use Rattle.feed.specs.Held.{held}
-use Rattle.feed.specs.SettingUp.{setsUp}
-use Rattle.feed.proofs.Port as P
-use Rattle.feed.proofs.Port.Laws as P′
-use Rattle.feed.proofs.SetUp as R
-use Rattle.feed.proofs.SetUp.Laws as R′
+use Rattle.records.specs.declared.Port.{Port}
+use Rattle.set_up.specs.declared.SetUp.{SetUp}
+use Rattle.demand3.specs.Held.{held}
+use Rattle.demand3.specs.SettingUp.{setsUp}
+use Rattle.records.proofs.Port as P
+use Rattle.records.proofs.Port.Laws as P′
+use Rattle.set_up.proofs.SetUp as R
+use Rattle.set_up.proofs.SetUp.Laws as R′
 use Rattle.bench.specs.Entries.{leftBySetUp}
 use Rattle.by_value.specs.First.{setsUpFirst}
 use Rattle.by_value.proofs.Fronts.{set-up-first}

@@ -1,6 +1,6 @@
 -- `card::enter_line` meets its contract: a case for each fact. Assumes nothing.
 use mathlib.Core.Path.{sym, _∙_}
-use Rattle.card.specs.Sheet.{enterLine}
+use Rattle.card_grammar.specs.Sheet.{enterLine}
 use borrow.Author.Needs.{needs}
 use Rattle.card.proofs.enter_line.Statement.{statement}
 use Rattle.card.proofs.enter_line.Tie as tie

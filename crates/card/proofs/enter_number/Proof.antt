@@ -1,5 +1,5 @@
 -- `card::enter_number` meets its contract. Assumes nothing.
-use Rattle.card.specs.Sheet.{enterNumber}
+use Rattle.card_grammar.specs.Sheet.{enterNumber}
 use borrow.Author.Needs.{needs}
 use Rattle.card.proofs.enter_number.Statement.{statement}
 use Rattle.card.proofs.enter_number.Tie as tie

@@ -1,5 +1,5 @@
 -- `card::enter_slot` meets its contract. Assumes nothing.
-use Rattle.card.specs.Sheet.{enterSlot}
+use Rattle.card_grammar.specs.Sheet.{enterSlot}
 use borrow.Author.Needs.{needs}
 use Rattle.card.proofs.enter_slot.Statement.{statement}
 use Rattle.card.proofs.enter_slot.Tie as tie

@@ -1,5 +1,5 @@
 -- `card::enter_word` meets its contract. Assumes nothing.
-use Rattle.card.specs.Sheet.{enterWord}
+use Rattle.card_grammar.specs.Sheet.{enterWord}
 use borrow.Author.Needs.{needs}
 use Rattle.card.proofs.enter_word.Statement.{statement}
 use Rattle.card.proofs.enter_word.Tie as tie

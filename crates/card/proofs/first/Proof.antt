@@ -1,6 +1,6 @@
 -- `card::first` meets its contract. Assumes nothing.
 use mathlib.Core.Path.{sym, _∙_}
-use Rattle.card.specs.Sheet.{firstOf}
+use Rattle.card_grammar.specs.Sheet.{firstOf}
 use borrow.Author.Needs.{needs}
 use Rattle.card.proofs.first.Statement.{statement}
 use Rattle.card.proofs.first.Tie as tie

@@ -1,5 +1,5 @@
 -- `card::in_range` meets its contract. Assumes nothing.
-use Rattle.card.specs.Sheet.{inRange}
+use Rattle.card_grammar.specs.Sheet.{inRange}
 use borrow.Author.Needs.{needs}
 use Rattle.card.proofs.in_range.Statement.{statement}
 use Rattle.card.proofs.in_range.Tie as tie

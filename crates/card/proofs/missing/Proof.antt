@@ -1,5 +1,5 @@
 -- `card::missing` meets its contract. Assumes nothing.
-use Rattle.card.specs.Card.{missing}
+use Rattle.card_grammar.specs.Card.{missing}
 use borrow.Author.Needs.{needs}
 use Rattle.card.proofs.missing.Statement.{statement}
 use Rattle.card.proofs.missing.Tie as tie

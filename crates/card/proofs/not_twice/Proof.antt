@@ -1,5 +1,5 @@
 -- `card::not_twice` meets its contract. Assumes nothing.
-use Rattle.card.specs.Sheet.{notTwice}
+use Rattle.card_grammar.specs.Sheet.{notTwice}
 use borrow.Author.Needs.{needs}
 use Rattle.card.proofs.not_twice.Statement.{statement}
 use Rattle.card.proofs.not_twice.Tie as tie

@@ -1,5 +1,5 @@
 -- `card::offset_allowed` meets its contract. Assumes nothing.
-use Rattle.card.specs.Sheet.{offsetAllowed}
+use Rattle.card_grammar.specs.Sheet.{offsetAllowed}
 use borrow.Author.Needs.{needs}
 use Rattle.card.proofs.offset_allowed.Statement.{statement}
 use Rattle.card.proofs.offset_allowed.Tie as tie

@@ -2,7 +2,7 @@
 use mathlib.Core.Path.{sym, _∙_}
 use denote.Ref.{now}
 use lib.Seq.{set-out}
-use Rattle.card.specs.Sheet.{put}
+use Rattle.card_grammar.specs.Sheet.{put}
 use borrow.Author.Needs.{needs}
 use Rattle.card.proofs.put.Statement.{statement}
 use Rattle.card.proofs.put.Tie as tie

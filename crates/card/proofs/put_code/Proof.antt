@@ -1,5 +1,5 @@
 -- `card::put_code` meets its contract. Assumes nothing.
-use Rattle.card.specs.Sheet.{putCode}
+use Rattle.card_grammar.specs.Sheet.{putCode}
 use borrow.Author.Needs.{needs}
 use Rattle.card.proofs.put_code.Statement.{statement}
 use Rattle.card.proofs.put_code.Tie as tie

@@ -1,5 +1,5 @@
 -- `card::put_frs` meets its contract. Assumes nothing.
-use Rattle.card.specs.Sheet.{putFrs}
+use Rattle.card_grammar.specs.Sheet.{putFrs}
 use borrow.Author.Needs.{needs}
 use Rattle.card.proofs.put_frs.Statement.{statement}
 use Rattle.card.proofs.put_frs.Tie as tie

@@ -7,7 +7,7 @@ use denote.Ref.{now}
 use lib.ListN.{length, drop}
 use borrow.Author.Needs.{needs}
 use Rattle.fields.specs.Text.{part, inLine, linesOf, runEnd}
-use Rattle.card.specs.Sheet.{enterLine, readLines}
+use Rattle.card_grammar.specs.Sheet.{enterLine, readLines}
 use Rattle.fields.proofs.Runs.{runEnd-most}
 use Rattle.card.proofs.Lines.{nextLine, lines-at, next-more, next-most, read-fine, read-refused, read-all}
 use Rattle.card.proofs.read_lines.Statement.{statement}

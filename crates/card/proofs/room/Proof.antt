@@ -1,5 +1,5 @@
 -- `card::room` meets its contract. Assumes nothing.
-use Rattle.card.specs.Card.{room}
+use Rattle.card_grammar.specs.Card.{room}
 use borrow.Author.Needs.{needs}
 use Rattle.card.proofs.room.Statement.{statement}
 use Rattle.card.proofs.room.Tie as tie

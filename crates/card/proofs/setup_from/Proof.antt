@@ -1,7 +1,7 @@
 -- `card::setup_from` meets its contract. Assumes nothing.
 use mathlib.Core.Path.{_≡_, ap}
 use Prim.Native.Nat.{ℕ, _%_}
-use Rattle.card.specs.Card.{setupFrom}
+use Rattle.card_grammar.specs.Card.{setupFrom}
 use borrow.Author.Needs.{needs}
 use Rattle.card.proofs.setup_from.Statement.{statement}
 use Rattle.card.proofs.setup_from.Tie as tie

@@ -4,8 +4,8 @@ use mathlib.Core.Bool.{cond}
 use Prim.Native.Nat.{ℕ}
 use lib.Dec.{ltb}
 use borrow.Author.Tests.{eq-eqb, ne-eqb}
-use Rattle.card.specs.declared.Reason.the-variants.{Fine, OutOfRange}
-use Rattle.card.specs.Sheet.{slotAllowed}
+use Rattle.card_grammar.specs.declared.Reason.the-variants.{Fine, OutOfRange}
+use Rattle.card_grammar.specs.Sheet.{slotAllowed}
 use borrow.Author.Needs.{needs}
 use Rattle.card.proofs.slot_allowed.Statement.{statement}
 use Rattle.card.proofs.slot_allowed.Tie as tie

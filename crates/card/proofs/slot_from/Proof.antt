@@ -3,8 +3,8 @@ use mathlib.Core.Path.{_≡_, ap, _∙_}
 use Prim.Native.Nat.{ℕ, _+_, _*_}
 use native.Mathlib.Omega.{arith}
 use denote.Ref.{now}
-use Rattle.card.specs.Sheet.{entryPlace}
-use Rattle.card.specs.Card.{codeFrom}
+use Rattle.card_grammar.specs.Sheet.{entryPlace}
+use Rattle.card_grammar.specs.Card.{codeFrom}
 use lib.Dec.{eqb}
 use borrow.Author.Needs.{needs}
 use Rattle.card.proofs.slot_from.Statement.{statement}

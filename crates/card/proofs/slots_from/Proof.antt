@@ -9,7 +9,7 @@ use lib.ListN.{length, take, set, length-set}
 use lib.Seq.{take-suc-set, take-all}
 use borrow.Author.Needs.{needs}
 use Rattle.readiness.specs.declared.Slot.{Slot}
-use Rattle.card.specs.Card.{slotFrom, slotsFrom}
+use Rattle.card_grammar.specs.Card.{slotFrom, slotsFrom}
 use Rattle.card.proofs.slots_from.Statement.{statement}
 use Rattle.card.proofs.slots_from.Tie as tie
 

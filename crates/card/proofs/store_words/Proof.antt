@@ -7,7 +7,7 @@ use denote.Ref.{now}
 use lib.ListN.{length, set, length-set}
 use borrow.Author.Needs.{needs}
 use Rattle.bits.proofs.Lists.{done, done-none, done-more, done-all}
-use Rattle.card.specs.Card.{namedBelow, wordsFrom, storedWords}
+use Rattle.card_grammar.specs.Card.{namedBelow, wordsFrom, storedWords}
 use Rattle.card.proofs.store_words.Statement.{statement}
 use Rattle.card.proofs.store_words.Tie as tie
 

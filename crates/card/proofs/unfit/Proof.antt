@@ -1,6 +1,6 @@
 -- `card::unfit` meets its contract. Assumes nothing.
 use mathlib.Core.Path.{sym, _∙_}
-use Rattle.card.specs.Sheet.{unfit}
+use Rattle.card_grammar.specs.Sheet.{unfit}
 use borrow.Author.Needs.{needs}
 use Rattle.card.proofs.unfit.Statement.{statement}
 use Rattle.card.proofs.unfit.Tie as tie

@@ -1,5 +1,5 @@
 -- `card::wants_code` meets its contract. Assumes nothing.
-use Rattle.card.specs.Sheet.{wantsCode}
+use Rattle.card_grammar.specs.Sheet.{wantsCode}
 use borrow.Author.Needs.{needs}
 use Rattle.card.proofs.wants_code.Statement.{statement}
 use Rattle.card.proofs.wants_code.Tie as tie

@@ -1,5 +1,5 @@
 -- `card::wants_end` meets its contract. Assumes nothing.
-use Rattle.card.specs.Sheet.{wantsEnd}
+use Rattle.card_grammar.specs.Sheet.{wantsEnd}
 use borrow.Author.Needs.{needs}
 use Rattle.card.proofs.wants_end.Statement.{statement}
 use Rattle.card.proofs.wants_end.Tie as tie

@@ -1,5 +1,5 @@
 -- `card::wants_number` meets its contract. Assumes nothing.
-use Rattle.card.specs.Sheet.{wantsNumber}
+use Rattle.card_grammar.specs.Sheet.{wantsNumber}
 use borrow.Author.Needs.{needs}
 use Rattle.card.proofs.wants_number.Statement.{statement}
 use Rattle.card.proofs.wants_number.Tie as tie

@@ -1,5 +1,5 @@
 -- `card::wants_word` meets its contract. Assumes nothing.
-use Rattle.card.specs.Sheet.{wantsWord}
+use Rattle.card_grammar.specs.Sheet.{wantsWord}
 use borrow.Author.Needs.{needs}
 use Rattle.card.proofs.wants_word.Statement.{statement}
 use Rattle.card.proofs.wants_word.Tie as tie

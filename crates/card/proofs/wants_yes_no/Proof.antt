@@ -1,5 +1,5 @@
 -- `card::wants_yes_no` meets its contract. Assumes nothing.
-use Rattle.card.specs.Sheet.{wantsYesNo}
+use Rattle.card_grammar.specs.Sheet.{wantsYesNo}
 use borrow.Author.Needs.{needs}
 use Rattle.card.proofs.wants_yes_no.Statement.{statement}
 use Rattle.card.proofs.wants_yes_no.Tie as tie

@@ -1,5 +1,5 @@
 -- `card::why_not_codes` meets its contract. Assumes nothing.
-use Rattle.card.specs.Sheet.{whyNotCodes}
+use Rattle.card_grammar.specs.Sheet.{whyNotCodes}
 use borrow.Author.Needs.{needs}
 use Rattle.card.proofs.why_not_codes.Statement.{statement}
 use Rattle.card.proofs.why_not_codes.Tie as tie

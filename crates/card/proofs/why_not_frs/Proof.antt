@@ -1,5 +1,5 @@
 -- `card::why_not_frs` meets its contract. Assumes nothing.
-use Rattle.card.specs.Sheet.{whyNotFrs}
+use Rattle.card_grammar.specs.Sheet.{whyNotFrs}
 use borrow.Author.Needs.{needs}
 use Rattle.card.proofs.why_not_frs.Statement.{statement}
 use Rattle.card.proofs.why_not_frs.Tie as tie

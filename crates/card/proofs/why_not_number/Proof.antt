@@ -1,5 +1,5 @@
 -- `card::why_not_number` meets its contract. Assumes nothing.
-use Rattle.card.specs.Sheet.{whyNotNumber}
+use Rattle.card_grammar.specs.Sheet.{whyNotNumber}
 use borrow.Author.Needs.{needs}
 use Rattle.card.proofs.why_not_number.Statement.{statement}
 use Rattle.card.proofs.why_not_number.Tie as tie

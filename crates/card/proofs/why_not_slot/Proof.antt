@@ -1,5 +1,5 @@
 -- `card::why_not_slot` meets its contract. Assumes nothing.
-use Rattle.card.specs.Sheet.{whyNotSlot}
+use Rattle.card_grammar.specs.Sheet.{whyNotSlot}
 use borrow.Author.Needs.{needs}
 use Rattle.card.proofs.why_not_slot.Statement.{statement}
 use Rattle.card.proofs.why_not_slot.Tie as tie

@@ -1,5 +1,5 @@
 -- `card::why_not_word` meets its contract. Assumes nothing.
-use Rattle.card.specs.Sheet.{whyNotWord}
+use Rattle.card_grammar.specs.Sheet.{whyNotWord}
 use borrow.Author.Needs.{needs}
 use Rattle.card.proofs.why_not_word.Statement.{statement}
 use Rattle.card.proofs.why_not_word.Tie as tie

@@ -1,5 +1,5 @@
 -- `card::word_allowed` meets its contract. Assumes nothing.
-use Rattle.card.specs.Sheet.{wordAllowed}
+use Rattle.card_grammar.specs.Sheet.{wordAllowed}
 use borrow.Author.Needs.{needs}
 use Rattle.card.proofs.word_allowed.Statement.{statement}
 use Rattle.card.proofs.word_allowed.Tie as tie

@@ -7,11 +7,11 @@ use borrow.Author.Needs.{needs}
 use Rattle.trace.specs.Format.{Bytes}
 use Rattle.trace.specs.Calls.{Call}
 use Rattle.trace.proofs.Lists.{bytes-of}
-use Rattle.feed.specs.Held.{held}
-use Rattle.feed.specs.Claim.{Typed}
+use Rattle.demand3.specs.Held.{held}
+use Rattle.demand3.specs.Claim.{Typed}
 use Rattle.bench.proofs.Typed.{carried-bytes}
-use Rattle.client.specs.Twice.{lend}
-use Rattle.client.proofs.Laws.{by-plain-bench}
+use Rattle.two_calls.specs.Twice.{lend}
+use Rattle.two_calls.proofs.Laws.{by-plain-bench}
 use Rattle.client.proofs.twice.Statement.{statement}
 use Rattle.client.proofs.twice.Tie as tie
 use Rattle.client.proofs.twice.Reads as reads

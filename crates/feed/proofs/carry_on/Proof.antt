@@ -6,7 +6,7 @@ use mathlib.Core.List.{_++_}
 use native.Mathlib.Omega.{arith}
 use lib.ListN.{length}
 use denote.Ref.{now}
-use Rattle.feed.specs.Held.{carriedOf}
+use Rattle.demand3.specs.Held.{carriedOf}
 use Rattle.feed.proofs.Ends.{carries-on}
 use Rattle.feed.proofs.carry_on.Statement.{statement}
 use Rattle.feed.proofs.carry_on.Tie as tie

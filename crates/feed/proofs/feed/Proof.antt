@@ -9,10 +9,12 @@ use denote.Ref.{now}
 use borrow.Author.Needs.{needs}
 use Rattle.trace.proofs.Refusing.{feeds-no}
 use Rattle.readiness.specs.declared.Status.{Status}
-use Rattle.feed.specs.Held.{Held, held, lentOf}
-use Rattle.feed.specs.Feeding.{bench, feeds, left}
-use Rattle.feed.proofs.Lent.{length-lent, in-place-lent}
-use Rattle.feed.proofs.Accepting.{too-many, stops-set-up}
+use Rattle.demand3.specs.Held.{Held, held, lentOf}
+use Rattle.demand3.specs.Feeding.{bench, feeds}
+use Rattle.feed.specs.Left.{left}
+use Rattle.set_up.proofs.Lent.{length-lent}
+use Rattle.feed.proofs.Lent.{in-place-lent}
+use Rattle.set_up.proofs.Stopping.{too-many, stops-set-up}
 use Rattle.feed.proofs.feed.Statement.{statement}
 use Rattle.feed.proofs.feed.Tie as tie
 

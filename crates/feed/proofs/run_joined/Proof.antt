@@ -2,7 +2,7 @@
 -- Assumes nothing.
 use Prim.Native.Nat.{ℕ, _+_, _-_, _≤_, _<_}
 use native.Mathlib.Omega.{arith}
-use mathlib.Core.Path.{_≡_, refl, sym, ap, _∙_}
+use mathlib.Core.Path.{_≡_, sym, ap, _∙_}
 use mathlib.Core.List.{List, [], _++_, append-nil}
 use lib.ListN.{length, getD, take, drop, replicate, length-append, length-drop}
 use lib.Seq.{length-take-le, take-length, take-at, drop-at, drop-length}
@@ -10,15 +10,16 @@ use denote.Ref.{now}
 use mir.Syntax.{w8}
 use mir.Val.{Fits}
 use borrow.Author.Needs.{needs}
-use Rattle.trace.specs.Format.{pad, longest}
+use Rattle.trace.specs.Format.{longest}
 use Rattle.trace.specs.Lent.{Left, refusalOr31}
 use Rattle.trace.proofs.Lists.{bytes-of, bytes-take}
 use Rattle.readiness.specs.Phases.{statusesIn}
-use Rattle.feed.specs.Held.{Held, held, opened, carriedOf}
-use Rattle.feed.specs.Feeding.{bench, feeds, leftInPlace}
+use Rattle.demand3.specs.Held.{Held, held, opened, carriedOf}
+use Rattle.demand3.specs.Feeding.{bench, feeds}
+use Rattle.feed.specs.Left.{leftInPlace}
 use Rattle.feed.proofs.Accepting.{Accepted, accepted}
 use Rattle.feed.proofs.Counts.{counts}
-use Rattle.feed.proofs.Carried.{Joins, first, size-first, room-first, bytes-first, few-first, there-first, carried-less, ran, eight-answers, between, between-accepted, opened-accepted, first-call, then-rest, no-rest}
+use Rattle.feed.proofs.Carried.{Joins, first, room-first, bytes-first, few-first, there-first, carried-less, ran, eight-answers, between, between-accepted, opened-accepted, first-call, then-rest, no-rest}
 use Rattle.feed.proofs.run_joined.Statement.{statement}
 use Rattle.feed.proofs.run_joined.Tie as tie
 
@@ -34,7 +35,7 @@ sixteen : (c : tie.Start) → length (c .args .port .carried) ≡ 16
 sixteen c = search needs
 
 relies : (c : tie.Start) → Accepted (c .args .setup) (now (c .args .defaults)) (held (c .args .port) (statusesIn (now (c .args .phases))) (now (c .args .live)) (now (c .args .cells)))
-relies c = accepted (c .args .setup) (now (c .args .defaults)) _ (c .pre .0) (search needs) (search needs)
+relies c = accepted (c .args .setup) (now (c .args .defaults)) _ (c .pre .1 .0) (search needs) (search needs)
 
 -- what Carried asks
 joins : (c : tie.After-carried2) → let a = entry c .args in
@@ -43,13 +44,13 @@ joins c =
     let s = entry c in
     let a = s .args in
     record {
-      notRefused = s .pre .0;
+      notRefused = s .pre .1 .0;
       accepted = relies s;
       carriedBytes = bytes-take (a .port .«carried_len») (a .port .carried) (bytes-of (a .port .carried) (λ i h. carried-byte s i));
       inputBytes = bytes-of (now (a .input)) (λ i h. omega (arith, c .before .before .before .before .shared-slice-known2 .given i));
       long = length-take-le (a .port .«carried_len») (a .port .carried) (omega (arith, relies s .short, sixteen s));
-      some = s .pre .1 .0;
-      whole = s .pre .1 .1;
+      some = s .pre .1 .1 .0;
+      whole = s .pre .1 .1 .1;
     }
 
 -- the call's trace is as long as both
@@ -61,7 +62,7 @@ abbrev back : tie.After-run-input → tie.After-carried2
 back c = c .before .before .before .before .before .before .before .before
 
 abbrev given : tie.After-run-input → Left Held
-given c = let x = c .run-input in leftInPlace (x .result) (x .last .1 .1 .0) (x .last .1 .1 .1 .0) (x .last .1 .1 .1 .1 .1 .0) (x .last .1 .1 .1 .1 .1 .1 .1 .0)
+given c = let x = c .run-input in leftInPlace (x .result) (x .last .1 .1 .1 .0) (x .last .1 .1 .1 .1 .0) (x .last .1 .1 .1 .1 .1 .1 .0) (x .last .1 .1 .1 .1 .1 .1 .1 .1 .0)
 
 one : (c : tie.After-run-input) → let j = joins (back c) in
     _≡_ {A = Left Held} (given c) (record { number = 0; consumed = length (first j); written = 8; held = between j; answers = ran j .answer })
@@ -78,21 +79,21 @@ one c =
     ∙ first-call j room (length-take-le 8 (now (a .answers)) (room-first j))
 
 -- what is lent then
-lent-between : (c : tie.After-run-input) → let x = c .run-input in held (opened (x .result .port .dev)) (statusesIn (x .last .1 .1 .0)) (x .last .1 .1 .1 .0) (x .last .1 .1 .1 .1 .1 .0) ≡ between (joins (back c))
+lent-between : (c : tie.After-run-input) → let x = c .run-input in held (opened (x .result .port .dev)) (statusesIn (x .last .1 .1 .1 .0)) (x .last .1 .1 .1 .1 .0) (x .last .1 .1 .1 .1 .1 .1 .0) ≡ between (joins (back c))
 lent-between c = ap (λ (l : Left Held). held (opened (l .held .port .dev)) (l .held .statuses) (l .held .live) (l .held .cells)) (one c)
 
 -- its answer has eight bytes
-eight : (c : tie.After-run-input) → length (c .run-input .last .1 .1 .1 .1 .1 .1 .1 .0) ≡ 8
+eight : (c : tie.After-run-input) → length (c .run-input .last .1 .1 .1 .1 .1 .1 .1 .1 .0) ≡ 8
 eight c = ap (λ (l : Left Held). length (l .answers)) (one c) ∙ eight-answers (joins (back c))
 
 -- and the slice for answers is as long as it was
 abbrev slice : tie.After-run-input → List ℕ
-slice c = c .run-input .last .1 .1 .1 .1 .1 .1 .1 .0 ++ drop 8 (now (entry (back c) .args .answers))
+slice c = c .run-input .last .1 .1 .1 .1 .1 .1 .1 .1 .0 ++ drop 8 (now (entry (back c) .args .answers))
 
 length-slice : (c : tie.After-run-input) → length (slice c) ≡ length (now (entry (back c) .args .answers))
 length-slice c =
     let a = entry (back c) .args in
-    omega (arith, length-append (c .run-input .last .1 .1 .1 .1 .1 .1 .1 .0) (drop 8 (now (a .answers))), eight c, length-drop 8 (now (a .answers)), room-first (joins (back c)))
+    omega (arith, length-append (c .run-input .last .1 .1 .1 .1 .1 .1 .1 .1 .0) (drop 8 (now (a .answers))), eight c, length-drop 8 (now (a .answers)), room-first (joins (back c)))
 
 room-left : (c : tie.After-run-input) → 8 ≤ length (slice c)
 room-left c = omega (arith, length-slice c, room-first (joins (back c)))
@@ -125,7 +126,7 @@ part-run-input-end-2 : tie.Need-part-run-input-end-2
 part-run-input-end-2 c = omega (arith, room-first (joins (c .before .before .before .before .before .before)))
 
 run-input-requires : tie.Need-run-input-requires
-run-input-requires c κs = opened-accepted (joins (c .before .before .before .before .before .before .before))
+run-input-requires c κs = let b = c .before .before .before .before .before .before .before in (entry b .pre .0, opened-accepted (joins b))
 
 same-length : tie.Need-same-length
 same-length c = search needs
@@ -169,11 +170,11 @@ run-input-requires-2 : tie.Need-run-input-requires-2
 run-input-requires-2 c κs =
     let f = c .before .before .before .before .before .before .before .before .before .before .before .before .before .before .before in
     let a = entry (back f) .args in
-    ap (refusalOr31 (bench (a .setup) (now (a .defaults)))) (lent-between f) ∙ between-accepted (joins (back f))
+    (entry (back f) .pre .0, ap (refusalOr31 (bench (a .setup) (now (a .defaults)))) (lent-between f) ∙ between-accepted (joins (back f)))
 
 -- ---- the second call
 abbrev rest : tie.After-run-input2 → Left Held
-rest c = let x = c .run-input2 in leftInPlace (x .result) (x .last .1 .1 .0) (x .last .1 .1 .1 .0) (x .last .1 .1 .1 .1 .1 .0) (x .last .1 .1 .1 .1 .1 .1 .1 .0)
+rest c = let x = c .run-input2 in leftInPlace (x .result) (x .last .1 .1 .1 .0) (x .last .1 .1 .1 .1 .0) (x .last .1 .1 .1 .1 .1 .1 .0) (x .last .1 .1 .1 .1 .1 .1 .1 .1 .0)
 
 abbrev start : tie.After-run-input2 → tie.After-run-input
 start c = c .before .before .before .before .before .before .before .before .before .before .before .before .before .before .before .before
@@ -185,7 +186,7 @@ two c =
     let f = start c in
     let a = entry (back f) .args in
     let m = a .size - a .port .«carried_len» in
-    let y = f .run-input .last .1 .1 .1 .1 .1 .1 .1 .0 in
+    let y = f .run-input .last .1 .1 .1 .1 .1 .1 .1 .1 .0 in
     let i : take (length (now (a .input)) - m) (drop m (now (a .input))) ≡ drop m (now (a .input)) =
     ap (λ (n : ℕ). take n (drop m (now (a .input)))) (sym (length-drop m (now (a .input)))) ∙ take-length (drop m (now (a .input))) in
     let d : drop 8 (y ++ drop 8 (now (a .answers))) ≡ drop 8 (now (a .answers)) = drop-at y (drop 8 (now (a .answers))) 8 (eight f) in
@@ -201,7 +202,7 @@ after-first-requires c κs =
     let a = entry (back f) .args in
     let m = a .size - a .port .«carried_len» in
     let n = counts (a .setup) (now (a .defaults)) (between (joins (back f))) (drop m (now (a .input))) (drop 8 (now (a .answers))) in
-    let memory = entry (back f) .good .1 .1 .1 .1 .1 .1 .1 in (
+    let memory = entry (back f) .good .1 .1 .1 .1 .1 .1 .1 .1 in (
       omega (arith, ap (λ (l : Left Held). l .consumed) (two g), n .consumed, length-drop m (now (a .input)), memory .0 .1, there-first (joins (back f)), length-trace (back f)),
       omega (arith, ap (λ (l : Left Held). l .written) (two g), n .written, length-drop 8 (now (a .answers)), memory .1 .0 .1),
     )
@@ -231,7 +232,7 @@ returns-2 c =
     let f = start g in
     let a = entry (back f) .args in
     let j = joins (back f) in
-    let y = f .run-input .last .1 .1 .1 .1 .1 .1 .1 .0 in
+    let y = f .run-input .last .1 .1 .1 .1 .1 .1 .1 .1 .0 in
     let l = drop 8 (slice f) in
     let w = rest g .answers in
     let front : take 8 (slice f) ≡ ran j .answer = take-at y (drop 8 (now (a .answers))) 8 (eight f) ∙ ap (λ (x : Left Held). x .answers) (one f) in

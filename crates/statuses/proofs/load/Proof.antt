@@ -51,7 +51,7 @@ use Rattle.readiness.specs.declared.Status.{Status}
 use Rattle.readiness.specs.Status.{ready}
 use Rattle.readiness.proofs.Status as T
 use Rattle.readiness.proofs.Status.Laws as T′
-use Rattle.feed.specs.Held.{lentOf}
+use Rattle.demand3.specs.Held.{lentOf}
 use Rattle.walks.proofs.Walks.{before, before-plain, after}
 use Rattle.statuses.proofs.Copies.{padTo, pad-more, pad-all}
 use Rattle.statuses.proofs.at_most_32 as at-most-32

@@ -4,7 +4,7 @@ use borrow.Author.Needs.{needs}
 use mathlib.Core.Path.{refl, ap, sym, _∙_}
 use mathlib.Core.Bool.{false≢true}
 use Rattle.registers.specs.declared.Kind.{Kind}
-use Rattle.registers.specs.Functions.{linkResetAll}
+use Rattle.config_space.specs.Functions.{linkResetAll}
 use Rattle.records.specs.CardRecords.{linkDownEffect}
 use Rattle.device.proofs.Choices.{when-true, when-false}
 use Rattle.device.proofs.Answers.{alike}

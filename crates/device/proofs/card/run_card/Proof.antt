@@ -27,8 +27,8 @@ settled-requires : tie.Need-settled-requires
 settled-requires c κs =
     let begun = c .before .before .before .before .before .before .before .before .before in
     let a = begun .before .before .before .before .before .before .before .args in
-    let h : length (begun .start .last .1 .1 .0) ≡ length (a .phases .now) = search needs in
-    (search needs, statuses-same (begun .start .last .1 .1 .0) (a .phases .now) h ∙ search needs)
+    let h : length (begun .start .last .1 .1 .1 .0) ≡ length (a .phases .now) = search needs in
+    (search needs, statuses-same (begun .start .last .1 .1 .1 .0) (a .phases .now) h ∙ search needs)
 
 same-length : tie.Need-same-length
 same-length c = search needs

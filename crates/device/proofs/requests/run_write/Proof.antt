@@ -28,7 +28,7 @@ is-access-requires : tie.Need-is-access-requires
 is-access-requires c κs = search needs
 
 write-ready-requires : tie.Need-write-ready-requires
-write-ready-requires c κs = let i = inside (c .before) in (omega arith, omega arith, i .1)
+write-ready-requires c κs = let i = inside (c .before) in (search needs, (omega arith, omega arith, i .1))
 
 finished-requires : tie.Need-finished-requires
 finished-requires c κs = search needs

@@ -7,7 +7,7 @@ use mathlib.Core.List.{List}
 use Prim.Native.Nat.{ℕ}
 use lib.ListN.{set, length-set}
 use Rattle.bits.specs.Bits.{bit}
-use Rattle.registers.specs.Functions.{linkResetSlot, flrResetSlot}
+use Rattle.config_space.specs.Functions.{linkResetSlot, flrResetSlot}
 use Rattle.records.specs.State.{seat, wordPlace}
 use Rattle.records.specs.Requests.{startsD3hot, afterFlr, afterD3hot, writeSeat}
 use Rattle.device.proofs.Choices.{when-true, when-false}

@@ -6,7 +6,7 @@ use borrow.Author.Needs.{needs}
 use mathlib.Core.Path.{_≡_, ap, sym, subst}
 use Rattle.records.specs.declared.Record.{Record}
 use Rattle.records.specs.Parts.{partOf}
-use Rattle.feed.specs.Gathering.{recordSize}
+use Rattle.gather.specs.Gathering.{recordSize}
 use Rattle.feed.specs.Turns.{Takes}
 use Rattle.feed.proofs.choosing.turn_of.Statement.{statement}
 use Rattle.feed.proofs.choosing.turn_of.Tie as tie
@@ -18,26 +18,26 @@ some e h = subst (λ (x : Record). 0 < recordSize x) (sym e) h
 enum-known-record : tie.Need-enum-known-record
 enum-known-record c = search needs
 
-clock-turn-requires : tie.Need-clock-turn-requires
-clock-turn-requires c κs = search needs
+of-advance-requires : tie.Need-of-advance-requires
+of-advance-requires c κs = search needs
 
 enum-known-record-2 : tie.Need-enum-known-record-2
 enum-known-record-2 c = search needs
 
-read-turn-requires : tie.Need-read-turn-requires
-read-turn-requires c κs = search needs
+of-read-requires : tie.Need-of-read-requires
+of-read-requires c κs = search needs
 
 enum-known-record-3 : tie.Need-enum-known-record-3
 enum-known-record-3 c = search needs
 
-write-turn-requires : tie.Need-write-turn-requires
-write-turn-requires c κs = search needs
+of-write-requires : tie.Need-of-write-requires
+of-write-requires c κs = search needs
 
 enum-known-record-4 : tie.Need-enum-known-record-4
 enum-known-record-4 c = search needs
 
-message-turn-requires : tie.Need-message-turn-requires
-message-turn-requires c κs = search needs
+of-message-requires : tie.Need-of-message-requires
+of-message-requires c κs = search needs
 
 enum-told : tie.Need-enum-told
 enum-told c = search needs
@@ -63,8 +63,8 @@ enum-told-7 c = search needs
 enum-known-record-5 : tie.Need-enum-known-record-5
 enum-known-record-5 c = search needs
 
-hardware-turn-requires : tie.Need-hardware-turn-requires
-hardware-turn-requires c κs = search needs
+of-hardware-requires : tie.Need-of-hardware-requires
+of-hardware-requires c κs = search needs
 
 enum-told-8 : tie.Need-enum-told-8
 enum-told-8 c = search needs
@@ -73,16 +73,16 @@ enum-told-9 : tie.Need-enum-told-9
 enum-told-9 c = search needs
 
 returns : tie.Need-returns
-returns c = let a = c .before .before .before .before .args in subst (λ (x : Record). Takes (a .slots) (a .earliest) (a .clock) (a .link) x (c .clock-turn .result)) (sym (c .before .before .«record» .given .1)) (c .clock-turn .ensures (a .slots) (a .link))
+returns c = let a = c .before .before .before .before .args in subst (λ (x : Record). Takes (a .slots) (a .earliest) (a .clock) (a .link) x (c .of-advance .result)) (sym (c .before .before .«record» .given .1)) (c .of-advance .ensures (a .slots) (a .link))
 
 returns-2 : tie.Need-returns-2
-returns-2 c = let a = c .before .before .before .before .args in subst (λ (x : Record). Takes (a .slots) (a .earliest) (a .clock) (a .link) x (c .read-turn .result)) (sym (c .before .before .record2 .given .1)) (c .read-turn .ensures (a .earliest) (a .clock) (a .link))
+returns-2 c = let a = c .before .before .before .before .args in subst (λ (x : Record). Takes (a .slots) (a .earliest) (a .clock) (a .link) x (c .of-read .result)) (sym (c .before .before .record2 .given .1)) (c .of-read .ensures (a .earliest) (a .clock) (a .link))
 
 returns-3 : tie.Need-returns-3
-returns-3 c = let a = c .before .before .before .before .args in subst (λ (x : Record). Takes (a .slots) (a .earliest) (a .clock) (a .link) x (c .write-turn .result)) (sym (c .before .before .record3 .given .1)) (c .write-turn .ensures (a .earliest) (a .clock) (a .link))
+returns-3 c = let a = c .before .before .before .before .args in subst (λ (x : Record). Takes (a .slots) (a .earliest) (a .clock) (a .link) x (c .of-write .result)) (sym (c .before .before .record3 .given .1)) (c .of-write .ensures (a .earliest) (a .clock) (a .link))
 
 returns-4 : tie.Need-returns-4
-returns-4 c = let a = c .before .before .before .before .args in subst (λ (x : Record). Takes (a .slots) (a .earliest) (a .clock) (a .link) x (c .message-turn .result)) (sym (c .before .before .record4 .given .1)) (c .message-turn .ensures (a .slots) (a .earliest) (a .clock))
+returns-4 c = let a = c .before .before .before .before .args in subst (λ (x : Record). Takes (a .slots) (a .earliest) (a .clock) (a .link) x (c .of-message .result)) (sym (c .before .before .record4 .given .1)) (c .of-message .ensures (a .slots) (a .earliest) (a .clock))
 
 returns-5 : tie.Need-returns-5
 returns-5 c = (ap (partOf (c .before .before .args .slots)) (c .enum-told .given .1), some (c .enum-told .given .1) (omega arith))
@@ -106,7 +106,7 @@ returns-11 : tie.Need-returns-11
 returns-11 c = (ap (partOf (c .before .before .args .slots)) (c .enum-told7 .given .1), some (c .enum-told7 .given .1) (omega arith))
 
 returns-12 : tie.Need-returns-12
-returns-12 c = let a = c .before .before .before .before .args in subst (λ (x : Record). Takes (a .slots) (a .earliest) (a .clock) (a .link) x (c .hardware-turn .result)) (sym (c .before .before .record5 .given .1)) (c .hardware-turn .ensures (a .earliest) (a .clock) (a .link))
+returns-12 c = let a = c .before .before .before .before .args in subst (λ (x : Record). Takes (a .slots) (a .earliest) (a .clock) (a .link) x (c .of-hardware .result)) (sym (c .before .before .record5 .given .1)) (c .of-hardware .ensures (a .earliest) (a .clock) (a .link))
 
 returns-13 : tie.Need-returns-13
 returns-13 c = (ap (partOf (c .before .before .args .slots)) (c .enum-told8 .given .1), some (c .enum-told8 .given .1) (omega arith))
@@ -119,13 +119,13 @@ turn-of-spec =
     tie.close
     (tie.spec
     enum-known-record
-    clock-turn-requires
+    of-advance-requires
     enum-known-record-2
-    read-turn-requires
+    of-read-requires
     enum-known-record-3
-    write-turn-requires
+    of-write-requires
     enum-known-record-4
-    message-turn-requires
+    of-message-requires
     enum-told
     enum-told-2
     enum-told-3
@@ -134,7 +134,7 @@ turn-of-spec =
     enum-told-6
     enum-told-7
     enum-known-record-5
-    hardware-turn-requires
+    of-hardware-requires
     enum-told-8
     enum-told-9
     returns

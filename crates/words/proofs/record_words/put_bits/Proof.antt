@@ -1,6 +1,6 @@
 -- `words::record_words::put_bits` meets its contract. Assumes nothing.
 use Rattle.words.specs.Records.{bitsText}
-use Rattle.words.proofs.Putting.{then}
+use Rattle.line_text.proofs.Putting.{then}
 use borrow.Author.Needs.{needs}
 use Rattle.words.proofs.record_words.put_bits.Statement.{statement}
 use Rattle.words.proofs.record_words.put_bits.Tie as tie

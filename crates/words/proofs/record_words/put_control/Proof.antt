@@ -1,6 +1,6 @@
 -- `words::record_words::put_control` meets its contract. Assumes nothing.
 use Rattle.words.specs.Records.{controlText}
-use Rattle.words.proofs.Putting.{then}
+use Rattle.line_text.proofs.Putting.{then}
 use borrow.Author.Needs.{needs}
 use Rattle.words.proofs.record_words.put_control.Statement.{statement}
 use Rattle.words.proofs.record_words.put_control.Tie as tie

@@ -1,7 +1,7 @@
 -- `words::record_words::put_listed` meets its contract. Assumes nothing.
 use Rattle.words.specs.Records.{listedText}
-use Rattle.words.specs.Text.{textIf}
-use Rattle.words.proofs.Putting.{then, nothing}
+use Rattle.line_text.specs.Text.{textIf}
+use Rattle.line_text.proofs.Putting.{then, nothing}
 use borrow.Author.Needs.{needs}
 use Rattle.words.proofs.record_words.put_listed.Statement.{statement}
 use Rattle.words.proofs.record_words.put_listed.Tie as tie

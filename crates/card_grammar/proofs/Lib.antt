@@ -1,0 +1,4 @@
+pub mod Examples
+pub mod Comments
+pub mod Kept
+pub mod Laws

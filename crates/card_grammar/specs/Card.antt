@@ -1,0 +1,94 @@
+-- The card that a text is, or why it is none.
+-- Assumes nothing.
+use Prim.Native.Nat.{ℕ, zero, suc, _+_, _*_, _%_}
+use mathlib.Core.Bool.{Bool, cond}
+use mathlib.Core.List.{List, [], _∷_, _++_}
+use lib.Dec.{eqb}
+use lib.ListN.{length, getD, replicate}
+use Rattle.bits.specs.Lists.{listed}
+use Rattle.times.specs.declared.Code.{Code}
+use Rattle.readiness.specs.declared.Slot.{Slot}
+use Rattle.readiness.specs.declared.Setup.{Setup}
+use Rattle.fields.specs.Text.{linesOf}
+use Rattle.card_grammar.specs.Sheet.{notNamed, slotsPlace, queuePlace, busPlace, portPlace, entryPlace, places, named, isFine, firstOf, Told, readLines}
+use Rattle.card_grammar.specs.declared.Reason.{Reason}
+use Rattle.card_grammar.specs.declared.Reason.the-variants.{Fine, Missing, NoRoom}
+use Rattle.card_grammar.specs.declared.CardRead.{CardRead}
+
+-- a sheet with nothing named
+abbrev pub blankSheet : List ℕ
+blankSheet = replicate places notNamed
+
+-- what was named at a place, below a power of two up to 2^32; 0 where nothing was, since `notNamed` leaves no remainder
+abbrev pub namedBelow : (bound place : ℕ) → List ℕ → ℕ
+namedBelow bound place sheet = named place sheet % bound
+
+abbrev pub codeFrom : ℕ → List ℕ → Code
+codeFrom place sheet = record { 0 = namedBelow 0x1000 place sheet }
+
+-- a slot not named has codes 000 and no FRS
+abbrev pub slotFrom : List ℕ → ℕ → Slot
+slotFrom sheet n =
+    record {
+      reset = codeFrom (entryPlace n 0) sheet;
+      «dl_up» = codeFrom (entryPlace n 1) sheet;
+      flr = codeFrom (entryPlace n 2) sheet;
+      d3hot = codeFrom (entryPlace n 3) sheet;
+      «sends_frs» = eqb (named (entryPlace n 4) sheet) 1;
+    }
+
+-- the first n slots
+unfoldable pub slotsFrom : List ℕ → ℕ → List Slot
+slotsFrom sheet zero = []
+slotsFrom sheet (suc n) = slotsFrom sheet n ++ (slotFrom sheet n ∷ [])
+
+unfoldable pub setupFrom : List ℕ → Setup
+setupFrom sheet =
+    record {
+      slots = namedBelow 64 slotsPlace sheet;
+      entries = slotsFrom sheet 32;
+      bus = namedBelow 0x100 busPlace sheet;
+      «port_id» = namedBelow 0x10000 portPlace sheet;
+    }
+
+-- slots, queue, bus and port must be named
+abbrev pub mustBeNamed : ℕ → List ℕ → Reason
+mustBeNamed place sheet = cond (eqb (named place sheet) notNamed) Missing Fine
+
+unfoldable pub missing : List ℕ → Reason
+missing sheet =
+    firstOf (mustBeNamed slotsPlace sheet)
+    (firstOf (mustBeNamed queuePlace sheet) (firstOf (mustBeNamed busPlace sheet) (mustBeNamed portPlace sheet)))
+
+-- 2,048 words must be lent for the default words
+unfoldable pub room : ℕ → Reason
+room words = cond (eqb words 2048) Fine NoRoom
+
+-- the first n default words; a word not named is 0
+unfoldable pub wordsFrom : List ℕ → ℕ → List ℕ
+wordsFrom sheet n = listed n λ i. namedBelow 4294967296 i sheet
+
+-- the words lent take the default words, unless the text is refused
+unfoldable pub storedWords : Reason → (sheet words : List ℕ) → List ℕ
+storedWords why sheet words = cond (isFine why) (wordsFrom sheet (length words)) words
+
+-- what a reading leaves: the reading itself, and the words lent for the default words
+pub record Outcome : Type 0 where
+  pub read : CardRead
+  pub words : List ℕ
+
+abbrev pub outcome : CardRead → List ℕ → Outcome
+outcome read words = record { read = read; words = words }
+
+-- the reading that ends with a sheet
+unfoldable pub outcomeFrom : Told → List ℕ → Outcome
+outcomeFrom t words =
+    let why = firstOf (t .reason) (firstOf (missing (t .sheet)) (room (length words))) in
+    outcome
+    (record { ok = isFine why; line = t .line; reason = why; setup = setupFrom (t .sheet); queue = namedBelow 4096 queuePlace (t .sheet) })
+    (storedWords why (t .sheet) words)
+
+-- the card that a text is: its set-up, its queue length and its default words; or the line that is refused, and why, with the
+-- words as they were
+unfoldable pub cardOf : (text words : List ℕ) → Outcome
+cardOf text words = outcomeFrom (readLines 0 (linesOf text) blankSheet) words

@@ -1,0 +1,9 @@
+pub mod Cases
+pub mod Demand3
+pub mod Refusals
+pub mod SettingUp
+pub mod Good
+pub mod Numbers
+pub mod Prepared
+pub mod StateKept
+pub mod TwoRecords

@@ -1,0 +1,24 @@
+-- Feed, and lists of calls of it (01, "Numbers given for no", "One trace").
+-- Assumes nothing.
+use Prim.Native.Nat.{ℕ}
+use mathlib.Core.List.{List}
+use Rattle.trace.specs.Lent.{Lent, Left, feeds as feedsOn}
+use Rattle.trace.specs.Calls.{Call, Came, calls as callsOn}
+use Rattle.readiness.specs.declared.Setup.{Setup}
+use Rattle.records.specs.State.{State}
+use Rattle.records.specs.Device.{device}
+use Rattle.demand3.specs.Held.{Held, benchOf, heldOf}
+use Rattle.demand3.specs.Refusals.{setUpRefusal, soundHeld}
+
+-- THE BENCH as it is lent, at a set-up and its defaults
+abbrev pub bench : Setup → (defaults : List ℕ) → Lent State Held
+bench setup defaults =
+    record { device = device setup defaults; setUp = setUpRefusal setup defaults; sound = soundHeld setup; view = benchOf; keep = heldOf }
+
+-- FEED: a call on what is held, an input and a slice for answers
+abbrev pub feeds : Setup → (defaults : List ℕ) → Held → (input answers : List ℕ) → Left Held
+feeds setup defaults h input answers = feedsOn (bench setup defaults) h input answers
+
+-- A LIST OF CALLS, each of which gets what the last one left
+abbrev pub calls : Setup → (defaults : List ℕ) → Held → List Call → Came Held
+calls setup defaults h cs = callsOn (bench setup defaults) h cs

@@ -1,0 +1,5 @@
+pub mod Held
+pub mod Refusals
+pub mod SettingUp
+pub mod Feeding
+pub mod Claim

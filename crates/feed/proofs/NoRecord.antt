@@ -1,0 +1,87 @@
+-- A call that runs no record, and what a call with a record can rely on.
+-- Assumes nothing.
+use Prim.Native.Nat.{ℕ, zero, suc, _+_, _-_, _<_}
+use native.Mathlib.Omega.{arith}
+use native.Mathlib.Nat.{sub-zero}
+use mathlib.Core.Path.{_≡_, refl, sym, ap, _∙_}
+use mathlib.Core.Bool.{false}
+use mathlib.Core.List.{List, _++_}
+use lib.ListN.{length, take}
+use lib.Dec.{eqb}
+use Rattle.trace.specs.Format.{Bytes, pad, next}
+use Rattle.trace.specs.Feed.{Gathered as GatheredBytes, gathered}
+use Rattle.trace.specs.Lent.{Left, refusalOr31}
+use Rattle.trace.proofs.Refusing.{goes-on, feeds-no}
+use Rattle.trace.proofs.Rejoin.{same-view}
+use Rattle.readiness.specs.declared.Setup.{Setup}
+use Rattle.demand3.specs.Held.{Held, held, opened, stateOf, carriedOf}
+use Rattle.demand3.specs.Feeding.{bench, feeds}
+use Rattle.feed.specs.declared.Opening.{Opening}
+use Rattle.feed.specs.declared.FedPort.{FedPort}
+use Rattle.feed.specs.Left.{carriesOn, Opens, Rests}
+use Rattle.feed.proofs.Accepting.{Accepted, accepted}
+use Rattle.feed.proofs.Looping.{starts, ends, ended}
+use Rattle.feed.proofs.Carried.{open-accepted}
+
+-- what the types of code say of a call
+pub record Typed (setup : Setup) (h : Held) (input : List ℕ) : Type 0 where
+  pub bus : setup .bus < 256
+  pub portId : setup .«port_id» < 65536
+  pub sixteen : length (h .port .carried) ≡ 16
+  pub carried : Bytes (carriedOf (h .port))
+  pub fed : Bytes input
+
+module _ (setup : Setup) (defaults : List ℕ) (h : Held) (input room : List ℕ) where
+  -- what a call leaves, with a port and the lent memory as it was
+  abbrev leaves : FedPort → Left Held
+  leaves r = record { number = r .number; consumed = r .consumed; written = r .written; held = held (r .port) (h .statuses) (h .live) (h .cells); answers = room }
+
+  abbrev rest : List ℕ
+  rest = carriedOf (h .port) ++ input
+
+  abbrev found : GatheredBytes
+  found = gathered rest (length room) (next rest)
+
+  -- one that is not refused and completes no record
+  completes-none : Typed setup h input → refusalOr31 (bench setup defaults) h ≡ 0 → found .runs ≡ false → leaves (carriesOn (h .port) found) ≡ feeds setup defaults h input room
+  completes-none t e q =
+      let a = accepted setup defaults h e (t .bus) (t .portId) in
+      let p = h .port in
+      let v =
+      starts setup defaults (p .carried) (p .«carried_len») input room (stateOf h) (p .dev) (h .statuses) (h .live) (h .cells) refl
+      (a .fits .perSlot) (a .short) (t .sixteen) (a .good) (a .begun) (t .carried) (t .fed) in
+      let z : found .count - p .«carried_len» ≡ 0 + found .count - p .«carried_len» = omega arith in
+      _∙_ {A = Left Held}
+      (λ i. record {
+        number = found .number;
+        consumed = z i;
+        written = 0;
+        held = held (record { dev = p .dev; carried = pad 16 (take (found .count) (found .bytes)); «carried_len» = found .count; broken = eqb (found .number) 31 }) (h .statuses) (h .live) (h .cells);
+        answers = room;
+      })
+      (ended v found (ends v found (ap (λ (n : ℕ). gathered rest n (next rest)) (sym (sub-zero (length room)))) q) h refl refl e)
+
+  -- A CALL THAT RUNS NO RECORD
+  pub runs-none : Typed setup h input → (o : Opening) → Opens setup defaults h input (length room) o → o .size ≡ 0 → (r : FedPort) → Rests (o .number) (h .port) input r
+      → leaves r ≡ feeds setup defaults h input room
+  runs-none t o p s r x = by (o .number) refl
+    where
+      by : (n : ℕ) → o .number ≡ n → leaves r ≡ feeds setup defaults h input room
+      by zero e = ap leaves (x .carries e (length room) (p .first e .none s)) ∙ completes-none t (sym (p .number) ∙ e) (p .first e .none s)
+      by (suc n) e =
+          let f : o .number ≡ 0 → ⊥ = λ z. absurd (omega (arith, e, z)) in
+          ap leaves (x .refused f) ∙ feeds-no (bench setup defaults) h input room (o .number) (p .number) f
+
+  -- with nothing carried, a call is one on a port that says so
+  module _ (e : refusalOr31 (bench setup defaults) h ≡ 0) (a : Accepted setup defaults h) (none : h .port .«carried_len» ≡ 0) where
+    abbrev fresh : Held
+    fresh = held (opened (h .port .dev)) (h .statuses) (h .live) (h .cells)
+
+    pub fresh-accepted : refusalOr31 (bench setup defaults) fresh ≡ 0
+    fresh-accepted = open-accepted setup defaults h e (stateOf h) refl refl refl (a .good .kept .sound)
+
+    pub fresh-feeds : feeds setup defaults fresh input room ≡ feeds setup defaults h input room
+    fresh-feeds =
+        let z : carriedOf (h .port) ≡ carriedOf (opened (h .port .dev)) = ap (λ (n : ℕ). take n (h .port .carried)) none in
+        sym (same-view (bench setup defaults) h fresh input room e fresh-accepted
+        (λ i. record { dev = stateOf h; carried = z i; broken = goes-on (bench setup defaults) h e .1 i }))

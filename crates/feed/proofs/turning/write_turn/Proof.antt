@@ -1,0 +1,74 @@
+-- `feed::turning::write_turn` meets its contract.
+-- Assumes nothing.
+use Prim.Native.Nat.{ℕ}
+use mathlib.Core.Path.{sym, ap, _∙_}
+use borrow.Author.Needs.{needs}
+use denote.Ref.{now}
+use Rattle.readiness.specs.Phases.{statusesIn}
+use Rattle.records.specs.declared.Record.the-variants as variants
+use Rattle.records.specs.Parts.{partAt}
+use Rattle.feed.proofs.Running.{slot-runs}
+use Rattle.feed.proofs.Direct.{turned-of, at-slot, as-told}
+use Rattle.feed.proofs.turning.write_turn.Statement.{statement}
+use Rattle.feed.proofs.turning.write_turn.Tie as tie
+
+status-at-requires : tie.Need-status-at-requires
+status-at-requires c κs = search needs
+
+run-write-requires : tie.Need-run-write-requires
+run-write-requires c κs = search needs
+
+answer-requires : tie.Need-answer-requires
+answer-requires c κs = c .before .before .before .before .before .before .before .before .before .before .before .before .before .before .before .pre .1 .4
+
+put-status-requires : tie.Need-put-status-requires
+put-status-requires c κs = c .before .before .before .before .before .before .before .before .before .before .before .before .before .before .before .before .before .before .before .before .pre .1 .1
+
+lowered-requires : tie.Need-lowered-requires
+lowered-requires c κs = search needs
+
+same-length : tie.Need-same-length
+same-length c = search needs
+
+same-length-2 : tie.Need-same-length-2
+same-length-2 c = search needs
+
+same-length-3 : tie.Need-same-length-3
+same-length-3 c = search needs
+
+same-length-4 : tie.Need-same-length-4
+same-length-4 c = search needs
+
+returns : tie.Need-returns
+returns c =
+    let a = c .before .before .before .before .before .before .before .before .before .before .before .before .before .before .before .before .before .before .before .before .before .before .before .before .before .args in
+    let d = now (a .defaults) in
+    let s = statusesIn (now (a .phases)) in
+    let i = a .q .slot in
+    let r = variants.Write (a .q) (a .value) in
+    let x = c .before .before .before .before .before .before .before .before .before .before .before .before .before .before .before .run-write in
+    let put = c .before .before .before .before .put-status .ensures in (
+      λ setup e b n h sound fits.
+          rw put
+          (turned-of setup d (a .dev) s (now (a .live)) (now (a .cells)) r _ (x .result .reply)
+          (slot-runs setup d (a .dev) s (now (a .live)) (now (a .cells)) r sound fits i (ap (λ (n : ℕ). partAt n i) e ∙ at-slot (a .slots) i h) (x .result) _ _
+          (rw (sym (c .before .before .before .before .before .before .before .before .before .before .before .before .before .before .before .before .before .before .status-at .ensures))
+          (x .ensures ∙ sym (as-told setup d (a .dev) s (now (a .live)) (now (a .cells)) r (a .slots) (a .bus) (a .entry) e b i n _))))
+          _ _ _ (c .before .before .before .before .before .before .before .before .before .answer .ensures)),
+      λ h. rw put (c .lowered .ensures s i h),
+    )
+
+pub write-turn-spec : {M : Type 1} → statement M
+write-turn-spec =
+    tie.close
+    (tie.spec
+    status-at-requires
+    run-write-requires
+    answer-requires
+    put-status-requires
+    lowered-requires
+    same-length
+    same-length-2
+    same-length-3
+    same-length-4
+    returns)

@@ -1,0 +1,3 @@
+pub mod Putting
+mod Numerals
+pub mod Laws

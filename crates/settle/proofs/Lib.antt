@@ -1,0 +1,5 @@
+pub mod Messages
+pub mod Scan
+pub mod Settling
+pub mod Statuses
+pub mod Insertion

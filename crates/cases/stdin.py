@@ -1,17 +1,21 @@
 #!/usr/bin/env python3
 """Writes the stored stream of `cases`, and holds an output for it to what is written here beside each operation.
 
-    stdin.py > stdin            the stream
+    stdin.py < STREAM > stdin   the stream; STREAM is 00-base, or a stdin that was made so
     stdin.py OUTPUT             the numbers, statuses and answers in OUTPUT are those that are expected here, and every kind of
                                 record has given every status that it can give
 
-The cases: marked cases 1 to 10 of 01; every status for every kind that can give it; refusals 1 to 5, each clause of 5 alone;
-30 and 31; FRS in order of ready time, dropped, and with interrupts. `stdout` is what the independent implementation writes.
+The cases: the first four of 00-base, whose output is the front of what 00-base wants; then those that are written here: marked
+cases 1 to 10 of 01; every status for every kind that can give it; refusals 1 to 5, each clause of 5 alone; 30 and 31; FRS in order
+of ready time, dropped, and with interrupts; messages written and read. `stdout` is what the independent implementation writes.
 """
 import struct
 import sys
 
-VERSION = 1
+# The version and the first four cases of 00-base, and what they give.
+BASE = 9019
+BASE_OUTPUT = 41507
+
 FLR_CAPABLE = 1 << 28
 GREATEST = 1006632960
 CLOCK_END = 10**15
@@ -21,8 +25,8 @@ cases = []
 
 # ---- What a case lends
 
-def entry(reset=0, dl_up=0x00A, flr=0x005, d3hot=0, sends_frs=1):
-    return struct.pack('<HHHHB', reset, dl_up, flr, d3hot, sends_frs)
+def entry(reset=0, dl_up=0x00A, flr=0x005, d3hot=0, sends_frs=1, edition=1, v=0, parent=0xFF):
+    return struct.pack('<HHHHBBHB', reset, dl_up, flr, d3hot, sends_frs, edition, v, parent)
 
 
 class Case:
@@ -45,12 +49,12 @@ class Case:
         cases.append(self)
 
     def bytes(self):
-        front = struct.pack('<BBHHHBH', self.slots, self.statuses, self.live, len(self.defaults), self.cells, 1, 8)
+        front = struct.pack('<BBHHHBHB', self.slots, self.statuses, self.live, len(self.defaults), self.cells, 1, 8, 0)
         words = struct.pack('<%dI' % len(self.defaults), *self.defaults)
         return front + b''.join(self.entries) + words + b''.join(o[0] for o in self.operations) + b'\0'
 
     def state_size(self):
-        return 38 + 18 * self.statuses + 4 * (self.live + self.cells)
+        return 46 + 27 * self.statuses + 4 * (self.live + self.cells)
 
     def set_up(self, number=0):
         self.operations.append((b'\1', 'set-up', number))
@@ -73,22 +77,38 @@ class Case:
         self.operations.append((b'\3' + image(**port) + b''.join(statuses) + words + ring, 'lend'))
         return self
 
+    def writes(self, kind, number, reason, want, room=16):
+        """`want`: the number that is given, or the message."""
+        body = struct.pack('<BBHBB', 13, kind, number, reason, room)
+        want = b'\0' + want if isinstance(want, bytes) else bytes([want]) + b'\xEE' * room
+        self.operations.append((body, 'message', want))
+        return self
+
+    def reads(self, message, kind=0, number=0, reason=0, status=0):
+        want = struct.pack('<BBHB', status, kind, number, reason)
+        self.operations.append((bytes([14, len(message)]) + message, 'message', want))
+        return self
+
 
 # ---- A state
 
-DOWN = struct.pack('<BBQQ', 0, 0, 0, 0)
-READY = struct.pack('<BBQQ', 2, 0, 0, 0)
+def status(phase, cause=0, ready=0, end=0):
+    return struct.pack('<BBQQBQ', phase, cause, ready, end, 0, 0)
+
+
+DOWN = status(0)
+READY = status(2)
 
 
 def pending(ready, cause=1, end=0):
-    return struct.pack('<BBQQ', 1, cause, ready, end)
+    return status(1, cause, ready, end)
 
 
 def image(clock=0, link=0, owed=0, bits=(0, 0, 0), visibility=0, interrupt=0, signalling=0, start=0, depth=0,
           carried=b'', count=None, broken=0):
     count = len(carried) if count is None else count
     flags = bytes([link, owed, *bits, visibility, interrupt, signalling])
-    return struct.pack('<Q8sHHB16sB', clock, flags, start, depth, count, carried, broken)
+    return struct.pack('<QQ8sHHB16sB', clock, 0, flags, start, depth, count, carried, broken)
 
 
 # ---- Records
@@ -275,6 +295,32 @@ Case().set_up().feed(
 Case(entries=[entry(dl_up=0)]).set_up().feed([control(4), UP, read(0)], [0, done(interrupts=4), 0])
 
 
+# ---- Messages, written and read; the operations between them go on with the state that they find
+
+def layout(kind, code, number, reason=0):
+    return message(kind, code, number, reason)[1:]
+
+
+def changed(at, byte):
+    """A DRS of port 0100 with one byte changed."""
+    return DRS[1:at + 1] + bytes([byte]) + DRS[at + 2:]
+
+
+Case().writes(0x34, 0xABCD, 0, layout(0x34, 8, 0xABCD)).writes(0x30, 0xABCD, 3, layout(0x30, 9, 0xABCD, 3)).writes(
+    0x34, 0x0100, 1, 19).writes(0x30, 0x0100, 16, 19).writes(0x31, 0x0100, 0, 19).writes(0x30, 0x0100, 3, 19, room=0).writes(
+        0x30, 0x0100, 3, 19, room=15).writes(0x34, 0x0100, 0, 19, room=17).writes(0x34, 0x0100, 0, 19, room=40)
+Case().reads(layout(0x34, 8, 0xABCD), 0x34, 0xABCD).reads(layout(0x30, 9, 0xABCD, 3), 0x30, 0xABCD, 3).reads(
+    layout(0x30, 9, 0, 2 + 0xF0), 0x30, 0, 2).reads(layout(0x34, 8, 0x0100, 0xFF), 0x34, 0x0100).reads(
+        b'', status=19).reads(DRS[1:16], status=19).reads(DRS[1:] + b'\0', status=19).reads(DRS[1:] + bytes(24), status=19)
+read_alone = Case()
+for at, byte in ((1, 0x8F), (2, 0xFF), (3, 0xFF), (6, 0xFF), (8, 0xFF), (9, 0xFF), (13, 0xFF), (14, 0xFF)):
+    read_alone.reads(changed(at, byte), 0x34, 0x0100)
+for at, byte in ((0, 0x35), (1, 0x10), (1, 0x40), (7, 0x7E), (10, 1), (11, 0), (12, 9)):
+    read_alone.reads(changed(at, byte), status=19)
+Case().set_up().writes(0x30, 0x0100, 3, layout(0x30, 9, 0x0100, 3)).feed([UP, read(0)[:3]], [0]).reads(DRS[1:], 0x34, 0x0100).feed(
+    [b'\x0F', advance(10)], [17, 0])
+
+
 # ---- An output is held to what is expected
 
 STATUSES = {1: (0, 22), 2: (0, 16, 17, 18, 20, 21, 24), 3: (0, 17, 18, 20, 21, 24), 4: (0, 19, 23), 5: (0, 23), 6: (0, 23),
@@ -284,7 +330,7 @@ SIZES = {1: 5, 2: 4, 3: 8, 4: 17, 10: 2, 11: 2, 12: 7}
 
 class Check:
     def __init__(self, output):
-        self.output, self.at, self.wrong, self.seen = output, 0, 0, set()
+        self.output, self.at, self.wrong, self.seen = output, BASE_OUTPUT, 0, set()
 
     def take(self, n):
         self.at += n
@@ -319,14 +365,19 @@ class Check:
         for j, operation in enumerate(case.operations):
             where = 'case %d operation %d' % (index, j)
             if operation[1] == 'lend':
-                carried = operation[0][22:22 + operation[0][21]]
+                carried = operation[0][30:30 + operation[0][29]]
+                continue
+            if operation[1] == 'message':
+                got = self.take(len(operation[2]))
+                if got != operation[2]:
+                    self.say(where, '%s, not %s' % (got.hex(), operation[2].hex()))
                 continue
             if operation[1] == 'feed':
                 self.feed(where, operation, carried)
             elif self.take(1) != bytes([operation[2]]):
                 self.say(where, 'another number')
             state = self.take(case.state_size())
-            carried = state[21:21 + state[20]]
+            carried = state[29:29 + state[28]]
 
     def all(self):
         for index, case in enumerate(cases):
@@ -342,7 +393,7 @@ class Check:
 
 def main():
     if len(sys.argv) == 1:
-        sys.stdout.buffer.write(bytes([VERSION]) + b''.join(case.bytes() for case in cases))
+        sys.stdout.buffer.write(sys.stdin.buffer.read(BASE) + b''.join(case.bytes() for case in cases))
         return 0
     with open(sys.argv[1], 'rb') as output:
         good = Check(output.read()).all()

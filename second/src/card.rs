@@ -81,6 +81,7 @@ impl Sheet {
                     flr: code(flr)?,
                     d3hot: code(d3hot)?,
                     sends_frs: yes_no(frs)?,
+                    ..SlotEntry::BLANK
                 };
                 let slot = self.slot(n)?;
                 name(&mut self.entries[slot], entry)
@@ -113,7 +114,8 @@ impl Sheet {
             cells: self.queue?,
             bus: self.bus?,
             port_id: self.port?,
-            entries: self.entries.map(|entry| entry.unwrap_or(SlotEntry::ZERO)),
+            conventional: false,
+            entries: self.entries.map(|entry| entry.unwrap_or(SlotEntry::BLANK)),
             defaults: self.words[..words].iter().map(|word| word.unwrap_or(0)).collect(),
         })
     }
@@ -148,7 +150,7 @@ mod tests {
             with("slot 1 reset 001 dlup 00A flr A1E d3hot FFF frs yes # slow\r\nword 1 78 1f")
                 .unwrap();
         assert_eq!((setup.slots, setup.cells, setup.bus, setup.port_id), (2, 3, 10, 255));
-        assert_eq!(setup.entries[0], SlotEntry::ZERO);
+        assert_eq!(setup.entries[0], SlotEntry::BLANK);
         assert_eq!(setup.entries[1].codes(), [Code(1), Code(10), Code(0xA1E), Code(0xFFF)]);
         assert!(setup.entries[1].sends_frs);
         assert_eq!(setup.default_word(1, 30), 0x1F);

@@ -2,8 +2,11 @@
 
 use crate::bench::{Answer, Bench};
 use crate::feed::Fed;
-use crate::run::Gave;
+use crate::messages::{Kind, DRS, UNREADABLE, UNWRITABLE};
+use crate::run::{Gave, Reading, Wrote};
+use crate::setup::PARTS;
 use crate::sound::{broken_clauses, CLAUSES};
+use crate::stream::MOST_MESSAGE;
 
 /// Each kind of record with each status that it can give.
 const STATUSES: [(u8, &str, &[u8]); 13] = [
@@ -37,9 +40,68 @@ const IN_ONE_RECORD: [&str; 7] = [
 pub struct Coverage {
     answers: [[u64; 32]; 16],
     set_ups: [u64; 32],
+    parts: [u64; PARTS.len()],
     feeds: [u64; 32],
     clauses: [u64; CLAUSES.len()],
     in_one_record: [u64; IN_ONE_RECORD.len()],
+    noisy_lends: u64,
+    written: Messages<{ UNWRITABLE.len() }>,
+    read: Messages<{ UNREADABLE.len() }>,
+}
+
+/// Counters of messages written, or of messages read.
+struct Messages<const N: usize> {
+    drs: u64,
+    /// By reason.
+    frs: [u64; 16],
+    /// With 19.
+    refused: u64,
+    /// With 19 for one thing alone.
+    refused_for: [u64; N],
+    /// By room or length.
+    lengths: [u64; MOST_MESSAGE + 1],
+}
+
+impl<const N: usize> Messages<N> {
+    fn new() -> Messages<N> {
+        Messages {
+            drs: 0,
+            frs: [0; 16],
+            refused: 0,
+            refused_for: [0; N],
+            lengths: [0; MOST_MESSAGE + 1],
+        }
+    }
+
+    fn note(&mut self, number: u8, drs: bool, reason: u8, length: usize) {
+        self.lengths[length] += 1;
+        match number {
+            0 if drs => self.drs += 1,
+            0 => self.frs[usize::from(reason)] += 1,
+            _ => self.refused += 1,
+        }
+    }
+
+    /// Only what is refused alone counts.
+    fn note_refused<T: Copy + PartialEq>(&mut self, refused: &[T], all: &[(T, &str); N]) {
+        if let [alone] = refused {
+            let index = all.iter().position(|(what, _)| what == alone);
+            self.refused_for[index.expect("all are listed")] += 1;
+        }
+    }
+
+    fn rows<T>(&self, name: &str, all: &[(T, &str); N], rows: &mut Vec<(String, u64)>) {
+        rows.push((format!("{name} gives 0, DRS"), self.drs));
+        for (reason, count) in self.frs.iter().enumerate() {
+            rows.push((format!("{name} gives 0, FRS of reason {reason}"), *count));
+        }
+        rows.push((format!("{name} gives 19"), self.refused));
+        for ((_, what), count) in all.iter().zip(self.refused_for) {
+            rows.push((format!("{name} gives 19 for this alone: {what}"), count));
+        }
+        let least = self.lengths.iter().min().copied().unwrap_or(0);
+        rows.push((format!("{name} with each length from 0 to {MOST_MESSAGE}, at least"), least));
+    }
 }
 
 impl Coverage {
@@ -47,19 +109,44 @@ impl Coverage {
         Coverage {
             answers: [[0; 32]; 16],
             set_ups: [0; 32],
+            parts: [0; PARTS.len()],
             feeds: [0; 32],
             clauses: [0; CLAUSES.len()],
             in_one_record: [0; IN_ONE_RECORD.len()],
+            noisy_lends: 0,
+            written: Messages::new(),
+            read: Messages::new(),
         }
     }
 
     /// Counts what an operation gave; the bench is as the operation left it.
     pub fn note(&mut self, gave: &Gave, bench: &Bench) {
         match gave {
-            Gave::SetUp(number) => self.set_ups[usize::from(*number)] += 1,
+            Gave::SetUp(number) => {
+                self.set_ups[usize::from(*number)] += 1;
+                self.note_part(bench);
+            }
             Gave::Feed(fed) => self.note_feed(fed, bench),
-            Gave::Nothing => {}
+            Gave::Lent { noise } => self.noisy_lends += u64::from(*noise),
+            Gave::Wrote(wrote) => self.note_wrote(wrote),
+            Gave::Reading(reading) => self.note_reading(reading),
         }
+    }
+
+    fn note_wrote(&mut self, wrote: &Wrote) {
+        let Wrote { number, kind, reason, room, refused, .. } = wrote;
+        self.written.note(*number, *kind == DRS, *reason, room.len());
+        self.written.note_refused(refused, &UNWRITABLE);
+    }
+
+    fn note_reading(&mut self, reading: &Reading) {
+        let Reading { given, bytes, refused } = reading;
+        let (number, kind, reason) = match given {
+            Ok(message) => (0, message.kind, message.reason),
+            Err(number) => (*number, Kind::Frs, 0),
+        };
+        self.read.note(number, kind == Kind::Drs, reason, bytes.len());
+        self.read.note_refused(refused, &UNREADABLE);
     }
 
     fn note_feed(&mut self, fed: &Fed, bench: &Bench) {
@@ -70,6 +157,14 @@ impl Coverage {
         for (kind, answer) in &fed.ran {
             self.answers[usize::from(*kind)][usize::from(answer.status)] += 1;
             self.note_arrivals(answer);
+        }
+    }
+
+    /// Only a part of refusals 1 to 4 broken alone counts.
+    fn note_part(&mut self, bench: &Bench) {
+        if let [alone] = bench.setup.broken_parts()[..] {
+            let index = PARTS.iter().position(|(part, _, _)| *part == alone);
+            self.parts[index.expect("every part is listed")] += 1;
         }
     }
 
@@ -107,6 +202,9 @@ impl Coverage {
         for number in SET_UP_NUMBERS {
             rows.push((format!("set-up gives {number}"), self.set_ups[usize::from(number)]));
         }
+        for ((_, number, name), count) in PARTS.iter().zip(self.parts) {
+            rows.push((format!("set-up gives {number} for this alone: {name}"), count));
+        }
         for number in FEED_NUMBERS {
             rows.push((format!("feed gives {number}"), self.feeds[usize::from(number)]));
         }
@@ -116,6 +214,9 @@ impl Coverage {
         for (name, count) in IN_ONE_RECORD.iter().zip(self.in_one_record) {
             rows.push(((*name).to_string(), count));
         }
+        rows.push(("lend with bytes that are ignored".to_string(), self.noisy_lends));
+        self.written.rows("write a message", &UNWRITABLE, &mut rows);
+        self.read.rows("read a message", &UNREADABLE, &mut rows);
         rows
     }
 

@@ -11,6 +11,7 @@ mod faults;
 mod feed;
 mod fuzz;
 mod generate;
+mod landed;
 #[cfg(test)]
 mod marked;
 mod messages;
@@ -31,6 +32,7 @@ mod show;
 mod shrink;
 mod sound;
 mod speed;
+mod spoil;
 mod state;
 mod stream;
 mod times;
@@ -77,7 +79,7 @@ fn run_command(arguments: &Arguments) -> Verdict {
     let mut output = BufWriter::with_capacity(1 << 20, std::io::stdout().lock());
     match run::run_stream(input, &mut output, fault).map_err(text)? {
         run::Ended::AtItsEnd => Ok(true),
-        run::Ended::BadCase => Err("bad case".to_string()),
+        run::Ended::BadCase(_) => Err("bad case".to_string()),
     }
 }
 

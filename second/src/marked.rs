@@ -17,13 +17,8 @@ fn setup(slots: u8, cells: usize) -> Setup {
         defaults[slot * 64] = 0x5678_1234;
         defaults[slot * 64 + DEVICE_CAPABILITIES] = FLR_CAPABLE;
     }
-    let entry = SlotEntry {
-        reset: Code(0),
-        dl_up: Code(0x00A),
-        flr: Code(0x005),
-        d3hot: Code(0),
-        sends_frs: true,
-    };
+    let entry =
+        SlotEntry { dl_up: Code(0x00A), flr: Code(0x005), sends_frs: true, ..SlotEntry::BLANK };
     Setup {
         slots,
         statuses: usize::from(slots),
@@ -31,6 +26,7 @@ fn setup(slots: u8, cells: usize) -> Setup {
         cells,
         bus: 1,
         port_id: 8,
+        conventional: false,
         entries: [entry; MOST_SLOTS],
         defaults,
     }
@@ -66,7 +62,7 @@ fn read(bench: &mut Bench, slot: u8, offset: u8) -> u32 {
 
 fn frs(id: u16, reason: u8) -> Vec<u8> {
     let mut record = vec![4; 17];
-    messages::write(9, id, reason, &mut record[1..]).unwrap();
+    messages::write(messages::FRS, id, reason, &mut record[1..], Fault::None).unwrap();
     record
 }
 

@@ -1,9 +1,10 @@
 //! Names for the bytes of an operation's output.
 
-use crate::stream::{Case, Operation};
+use crate::stream::{image_length, Case, Operation, STATUS_BYTES};
 
-const PORT_FIELDS: [(&str, usize); 14] = [
+pub const PORT_FIELDS: [(&str, usize); 15] = [
     ("clock", 8),
+    ("moment of the last reset", 8),
     ("link", 1),
     ("owed", 1),
     ("Received", 1),
@@ -18,8 +19,15 @@ const PORT_FIELDS: [(&str, usize); 14] = [
     ("carried bytes", 16),
     ("broken", 1),
 ];
-const STATUS_FIELDS: [(&str, usize); 4] =
-    [("phase", 1), ("cause", 1), ("ready time", 8), ("FLR end", 8)];
+pub const STATUS_FIELDS: [(&str, usize); 6] = [
+    ("phase", 1),
+    ("cause", 1),
+    ("ready time", 8),
+    ("FLR end", 8),
+    ("set", 1),
+    ("end of change", 8),
+];
+const READING_FIELDS: [(&str, usize); 4] = [("number", 1), ("kind", 1), ("ID", 2), ("reason", 1)];
 const ANSWER_FIELDS: [&str; 8] = [
     "status",
     "interrupts",
@@ -49,11 +57,11 @@ fn image_field(case: &Case, offset: usize) -> String {
         Err(left) => left,
     };
     let setup = &case.setup;
-    if left < setup.statuses * 18 {
-        let name = among(&STATUS_FIELDS, left % 18).unwrap_or("?");
-        return format!("status of slot {}: {name}", left / 18);
+    if left < setup.statuses * STATUS_BYTES {
+        let name = among(&STATUS_FIELDS, left % STATUS_BYTES).unwrap_or("?");
+        return format!("status of slot {}: {name}", left / STATUS_BYTES);
     }
-    let left = left - setup.statuses * 18;
+    let left = left - setup.statuses * STATUS_BYTES;
     if left < setup.live_words * 4 {
         let word = left / 4;
         let (slot, place) = (word / 64, word % 64);
@@ -82,12 +90,13 @@ fn feed_field(case: &Case, room: usize, offset: usize) -> String {
 
 /// How many bytes an operation's output has.
 pub fn output_length(case: &Case, operation: &Operation) -> usize {
-    let setup = &case.setup;
-    let image = 38 + setup.statuses * 18 + setup.live_words * 4 + setup.cells * 4;
+    let image = image_length(&case.setup);
     match operation {
         Operation::SetUp => 1 + image,
         Operation::Feed { room, .. } => 9 + usize::from(*room) + image,
-        Operation::Lend(_) => 0,
+        Operation::Lend { .. } => 0,
+        Operation::WriteMessage { room, .. } => 1 + usize::from(*room),
+        Operation::ReadMessage(_) => READING_FIELDS.iter().map(|(_, length)| length).sum(),
     }
 }
 
@@ -103,7 +112,12 @@ pub fn name(case: &Case, offset: usize) -> String {
                 Operation::Feed { room, .. } => {
                     ("feed", feed_field(case, usize::from(*room), left))
                 }
-                Operation::Lend(_) => ("lend", String::new()),
+                Operation::Lend { .. } => ("lend", String::new()),
+                Operation::WriteMessage { .. } if left == 0 => ("write", "number".to_string()),
+                Operation::WriteMessage { .. } => ("write", format!("message byte {}", left - 1)),
+                Operation::ReadMessage(_) => {
+                    ("read", among(&READING_FIELDS, left).unwrap_or("?").to_string())
+                }
             };
             return format!("operation {index} ({what}), {field}");
         }

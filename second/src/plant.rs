@@ -5,14 +5,21 @@ use std::panic::{catch_unwind, AssertUnwindSafe};
 use crate::faults::{Described, Fault, FAULTS};
 use crate::generate;
 use crate::registers::{Table, TABLE};
-use crate::run::{run_case, run_case_with};
+use crate::run::{run_case, run_case_with, run_stream, Ended};
 use crate::setup::WORDS_PER_SLOT;
-use crate::stream::Case;
+use crate::stream::{put_case, VERSION};
+
+/// What a stream gives with a fault planted: how it ended, and its output.
+fn outcome(stream: &[u8], fault: Fault) -> (Ended, Vec<u8>) {
+    let mut output = Vec::new();
+    let ended = run_stream(stream, &mut output, fault).expect("memory is read and written");
+    (ended, output)
+}
 
 /// A fault that panics is told apart as well.
-fn is_caught(case: &Case, sound: &[u8], fault: Fault) -> bool {
-    match catch_unwind(AssertUnwindSafe(|| run_case(case, fault))) {
-        Ok(output) => output != sound,
+fn is_caught(stream: &[u8], sound: &(Ended, Vec<u8>), fault: Fault) -> bool {
+    match catch_unwind(AssertUnwindSafe(|| outcome(stream, fault))) {
+        Ok(faulty) => faulty != *sound,
         Err(_) => true,
     }
 }
@@ -24,10 +31,11 @@ fn hunt(seed: u64, cases: u64) -> Vec<Option<u64>> {
         if needed.iter().all(Option::is_some) {
             break;
         }
-        let case = generate::case(seed, number);
-        let sound = run_case(&case, Fault::None);
+        let mut stream = vec![VERSION];
+        put_case(&generate::case(seed, number), &mut stream);
+        let sound = outcome(&stream, Fault::None);
         for (described, needed) in FAULTS.iter().zip(&mut needed) {
-            if needed.is_none() && is_caught(&case, &sound, described.fault) {
+            if needed.is_none() && is_caught(&stream, &sound, described.fault) {
                 *needed = Some(number + 1);
             }
         }

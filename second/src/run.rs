@@ -5,17 +5,40 @@ use std::io::{self, Read, Write};
 use crate::bench::Bench;
 use crate::faults::Fault;
 use crate::feed::Fed;
+use crate::messages::{self, Message, Unreadable, Unwritable};
 use crate::registers::Table;
-use crate::stream::{put_image, Case, Operation, Source, Trouble};
+use crate::state::State;
+use crate::stream::{put_image, put_image_with, Bad, Case, Operation, Source, Trouble};
 
-/// What every answer byte is before a feed.
+/// What every answer byte is before a feed, and every byte of a message's room before it is written.
 pub const UNTOUCHED: u8 = 0xEE;
+
+/// A message that was to be written: what came of it.
+pub struct Wrote {
+    pub number: u8,
+    pub kind: u8,
+    pub id: u16,
+    pub reason: u8,
+    pub room: Vec<u8>,
+    /// All that is refused in it.
+    pub refused: Vec<Unwritable>,
+}
+
+/// Bytes that were to be read as a message: what came of it.
+pub struct Reading {
+    pub given: Result<Message, u8>,
+    pub bytes: Vec<u8>,
+    /// All that is refused in them.
+    pub refused: Vec<Unreadable>,
+}
 
 /// What an operation gave, beside the bytes written for it.
 pub enum Gave {
     SetUp(u8),
     Feed(Fed),
-    Nothing,
+    Lent { noise: bool },
+    Wrote(Wrote),
+    Reading(Reading),
 }
 
 /// Runs one operation and writes its output.
@@ -24,7 +47,7 @@ pub fn run_operation(bench: &mut Bench, operation: &Operation, out: &mut Vec<u8>
         Operation::SetUp => {
             let number = bench.set_up();
             out.push(number);
-            put_image(&bench.state, out);
+            put_state(&bench.state, bench.fault, out);
             Gave::SetUp(number)
         }
         Operation::Feed { room, input } => {
@@ -34,14 +57,59 @@ pub fn run_operation(bench: &mut Bench, operation: &Operation, out: &mut Vec<u8>
             out.extend((fed.consumed as u32).to_le_bytes());
             out.extend((fed.written as u32).to_le_bytes());
             out.extend(&answers);
-            put_image(&bench.state, out);
+            put_state(&bench.state, bench.fault, out);
             Gave::Feed(fed)
         }
-        Operation::Lend(state) => {
+        Operation::Lend { state, noise } => {
             bench.state = (**state).clone();
-            Gave::Nothing
+            Gave::Lent { noise: *noise != 0 }
+        }
+        Operation::WriteMessage { kind, id, reason, room } => {
+            let mut bytes = vec![UNTOUCHED; usize::from(*room)];
+            let written = messages::write(*kind, *id, *reason, &mut bytes, bench.fault);
+            let number = written.err().unwrap_or(0);
+            out.push(number);
+            out.extend(&bytes);
+            let refused = messages::unwritable(*kind, *reason, bytes.len());
+            let (kind, id, reason) = (*kind, *id, *reason);
+            Gave::Wrote(Wrote { number, kind, id, reason, room: bytes, refused })
+        }
+        Operation::ReadMessage(bytes) => {
+            let given = messages::read(bytes, bench.fault);
+            put_reading(&given, bytes, bench.fault, out);
+            let refused = messages::unreadable(bytes);
+            Gave::Reading(Reading { given, bytes: bytes.clone(), refused })
         }
     }
+}
+
+fn put_state(state: &State, fault: Fault, out: &mut Vec<u8>) {
+    match fault {
+        Fault::CarriedPastCountShown => put_image_with(state, &state.port.carried, out),
+        _ => put_image(state, out),
+    }
+}
+
+/// Number, kind by its byte 0, ID and reason; zeros where a message is refused.
+fn put_reading(given: &Result<Message, u8>, bytes: &[u8], fault: Fault, out: &mut Vec<u8>) {
+    let (number, kind, id, reason) = match given {
+        Ok(Message { kind, id, reason }) => (0, kind.byte_0(), *id, *reason),
+        Err(number) => (*number, 0, 0, 0),
+    };
+    let kind = match (kind, fault) {
+        (messages::DRS, Fault::ReaderGivesByte12) => 0x08,
+        (messages::FRS, Fault::ReaderGivesByte12) => 0x09,
+        _ => kind,
+    };
+    let id = match bytes {
+        [_, _, _, _, high, low, ..] if fault == Fault::ReaderRefusalShowsId => {
+            u16::from_be_bytes([*high, *low])
+        }
+        _ => id,
+    };
+    out.extend([number, kind]);
+    out.extend(id.to_le_bytes());
+    out.push(reason);
 }
 
 /// Runs a whole case with a fault planted, and gives its output.
@@ -66,7 +134,7 @@ fn run_all(case: &Case, mut bench: Bench) -> Vec<u8> {
 #[derive(Clone, Copy, PartialEq, Eq, Debug)]
 pub enum Ended {
     AtItsEnd,
-    BadCase,
+    BadCase(Bad),
 }
 
 fn run_cases<R: Read, W: Write>(
@@ -89,11 +157,87 @@ fn run_cases<R: Read, W: Write>(
 
 /// Runs a case stream to its end; what was written before a bad case stands.
 pub fn run_stream<R: Read, W: Write>(input: R, output: &mut W, fault: Fault) -> io::Result<Ended> {
-    let ended = match run_cases(&mut Source::new(input), output, fault) {
+    let ended = match run_cases(&mut Source::new(input, fault), output, fault) {
         Ok(()) => Ended::AtItsEnd,
-        Err(Trouble::BadCase) => Ended::BadCase,
+        Err(Trouble::BadCase(bad)) => Ended::BadCase(bad),
         Err(Trouble::Io(error)) => return Err(error),
     };
     output.flush()?;
     Ok(ended)
+}
+
+#[cfg(test)]
+mod tests {
+    use super::*;
+
+    /// A stream of one case without slots and memory, with these operations.
+    fn stream(operations: &[u8]) -> Vec<u8> {
+        let mut bytes = vec![2, 0, 0, 0, 0, 0, 0, 0, 0, 0, 0, 0, 0];
+        for _ in 0..32 {
+            bytes.extend([0, 0, 0, 0, 0, 0, 0, 0, 0, 1, 0, 0, 0xFF]);
+        }
+        bytes.extend(operations);
+        bytes
+    }
+
+    fn run(operations: &[u8]) -> (Ended, Vec<u8>) {
+        let mut output = Vec::new();
+        let ended = run_stream(&stream(operations)[..], &mut output, Fault::None).unwrap();
+        (ended, output)
+    }
+
+    const DRS_1234: [u8; 16] = [0x34, 0, 0, 0, 0x12, 0x34, 0, 0x7F, 0, 0, 0, 1, 8, 0, 0, 0];
+    const FRS_1234_9: [u8; 16] = [0x30, 0, 0, 0, 0x12, 0x34, 0, 0x7F, 0, 0, 0, 1, 9, 0, 0, 9];
+
+    #[test]
+    fn messages_are_written() {
+        let (ended, output) =
+            run(&[0x0D, 0x34, 0x34, 0x12, 0, 16, 0x0D, 0x30, 0x34, 0x12, 9, 16, 0]);
+        assert_eq!(ended, Ended::AtItsEnd);
+        assert_eq!(output, [&[0], &DRS_1234[..], &[0], &FRS_1234_9].concat());
+    }
+
+    #[test]
+    fn a_message_that_is_not_written_leaves_its_room() {
+        for (kind, reason, room) in [(0x08, 0, 16), (0x34, 1, 16), (0x30, 16, 16), (0x30, 9, 40)] {
+            let (ended, output) = run(&[0x0D, kind, 0x34, 0x12, reason, room, 0]);
+            assert_eq!(ended, Ended::AtItsEnd);
+            assert_eq!(output, [&[19], &vec![0xEE; usize::from(room)][..]].concat());
+        }
+    }
+
+    #[test]
+    fn messages_are_read() {
+        let reads = [&[0x0E, 16], &DRS_1234[..], &[0x0E, 16], &FRS_1234_9, &[0x0E, 0, 0]].concat();
+        let (ended, output) = run(&reads);
+        assert_eq!(ended, Ended::AtItsEnd);
+        assert_eq!(output, [0, 0x34, 0x34, 0x12, 0, 0, 0x30, 0x34, 0x12, 9, 19, 0, 0, 0, 0]);
+    }
+
+    #[test]
+    fn a_refused_set_up_shows_the_zero_state() {
+        let (ended, output) = run(&[1, 0]);
+        assert_eq!(ended, Ended::AtItsEnd);
+        assert_eq!(output, [&[1], &[0; 46][..]].concat());
+    }
+
+    #[test]
+    fn other_operations_are_bad_and_the_output_before_them_stands() {
+        for operation in (0x04..=0x0C).chain([0x0F, 0x10, 0xFF]) {
+            let (ended, output) = run(&[0x0E, 0, operation, 0, 0, 0]);
+            let way = if operation > 0x0E { Bad::Operation } else { Bad::NotLanded };
+            assert_eq!(ended, Ended::BadCase(way));
+            assert_eq!(output, [19, 0, 0, 0, 0]);
+        }
+    }
+
+    #[test]
+    fn other_versions_are_bad() {
+        for version in [0, 1, 3] {
+            let mut bytes = stream(&[1, 0]);
+            bytes[0] = version;
+            let ended = run_stream(&bytes[..], &mut Vec::new(), Fault::None).unwrap();
+            assert_eq!(ended, Ended::BadCase(Bad::Version));
+        }
+    }
 }

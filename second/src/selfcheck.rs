@@ -7,8 +7,9 @@ use crate::coverage::{report, Coverage};
 use crate::fast::held;
 use crate::faults::Fault;
 use crate::generate;
+use crate::messages::{self, Message, MESSAGE_LENGTH};
 use crate::random::Random;
-use crate::run::{run_operation, Gave};
+use crate::run::{run_operation, Gave, Reading, Wrote, UNTOUCHED};
 use crate::state::State;
 use crate::stream::{put_case, Case};
 
@@ -17,12 +18,39 @@ fn wrong(before: &State, bench: &Bench, gave: &Gave) -> Option<&'static str> {
     let number = match gave {
         Gave::SetUp(number) => *number,
         Gave::Feed(fed) => fed.number,
-        Gave::Nothing => return None,
+        Gave::Lent { .. } => return None,
+        Gave::Wrote(wrote) => return wrong_write(wrote),
+        Gave::Reading(reading) => return wrong_reading(reading),
     };
     if (1..=5).contains(&number) {
         return (*before != bench.state).then_some("a refusal changed the state");
     }
     bench.is_unsound().then_some("soundness was not kept")
+}
+
+/// A message written is read back as it was; one refused is refused for something, and its room stays.
+fn wrong_write(wrote: &Wrote) -> Option<&'static str> {
+    if wrote.number != 0 {
+        let same = wrote.room.iter().all(|byte| *byte == UNTOUCHED);
+        return (wrote.refused.is_empty() || !same).then_some("a refused message was written");
+    }
+    let back = messages::read(&wrote.room, Fault::None);
+    let same = back.is_ok_and(|message| {
+        (message.kind.byte_0(), message.id, message.reason) == (wrote.kind, wrote.id, wrote.reason)
+    });
+    (!same).then_some("a message written is not read back")
+}
+
+/// A message read can be written, and then differs only in what is ignored.
+fn wrong_reading(reading: &Reading) -> Option<&'static str> {
+    let Ok(message) = reading.given else {
+        return reading.refused.is_empty().then_some("a message is refused for nothing");
+    };
+    let Message { kind, id, reason } = message;
+    let mut room = [UNTOUCHED; MESSAGE_LENGTH];
+    let written = messages::write(kind.byte_0(), id, reason, &mut room, Fault::None);
+    let told = [0, 4, 5, 7, 10, 11, 12].iter().all(|place| room[*place] == reading.bytes[*place]);
+    (written.is_err() || !told).then_some("a message read is not written back")
 }
 
 /// Runs a case on the sound model and counts what it reaches.

@@ -24,15 +24,25 @@ pub struct SlotEntry {
     pub flr: Code,
     pub d3hot: Code,
     pub sends_frs: bool,
+    /// 1 until Q-8.
+    pub edition: u8,
+    /// 0 until Q-12.
+    pub v: Code,
+    /// None until Q-12.
+    pub parent: Option<u8>,
 }
 
 impl SlotEntry {
-    pub const ZERO: SlotEntry = SlotEntry {
+    /// Codes 0, sends none, and the default of every later field.
+    pub const BLANK: SlotEntry = SlotEntry {
         reset: Code(0),
         dl_up: Code(0),
         flr: Code(0),
         d3hot: Code(0),
         sends_frs: false,
+        edition: 1,
+        v: Code(0),
+        parent: None,
     };
 
     pub fn codes(&self) -> [Code; 4] {
@@ -49,6 +59,8 @@ pub struct Setup {
     pub cells: usize,
     pub bus: u8,
     pub port_id: u16,
+    /// A card without PCI Express; no until Q-9.
+    pub conventional: bool,
     pub entries: [SlotEntry; MOST_SLOTS],
     pub defaults: Vec<u32>,
 }
@@ -142,5 +154,91 @@ impl Setup {
             self.default_word(slot, DEVICE_CONTROL) & control != 0
                 || self.default_word(slot, PMCSR) & power != 0
         })
+    }
+}
+
+/// The parts of refusals 1 to 4.
+#[derive(Clone, Copy, PartialEq, Eq, Debug)]
+pub enum Part {
+    NoSlots,
+    ManySlots,
+    Statuses,
+    LiveWords,
+    DefaultWords,
+    NoQueue,
+    LongQueue,
+    ResetCode,
+    DlUpCode,
+    FlrCode,
+    D3hotCode,
+    Bit15,
+    Bit21,
+    PowerState,
+}
+
+pub const PARTS: [(Part, u8, &str); 14] = [
+    (Part::NoSlots, 1, "no slots"),
+    (Part::ManySlots, 1, "more than 32 slots"),
+    (Part::Statuses, 1, "statuses not one per slot"),
+    (Part::LiveWords, 1, "live words not 64 per slot"),
+    (Part::DefaultWords, 1, "default words not 64 per slot"),
+    (Part::NoQueue, 2, "no queue cells"),
+    (Part::LongQueue, 2, "more than 4,095 queue cells"),
+    (Part::ResetCode, 3, "Reset code above A1Eh"),
+    (Part::DlUpCode, 3, "DL Up code above A1Eh"),
+    (Part::FlrCode, 3, "FLR code above A1Eh"),
+    (Part::D3hotCode, 3, "D3hot code above A1Eh"),
+    (Part::Bit15, 4, "default bit 15 of 78h"),
+    (Part::Bit21, 4, "default bit 21 of 78h"),
+    (Part::PowerState, 4, "default bits 1:0 of 44h"),
+];
+
+impl Setup {
+    /// The parts of refusals 1 to 4 that this set-up breaks; of more than 32 slots only 32 can have statuses.
+    pub fn broken_parts(&self) -> Vec<Part> {
+        PARTS.iter().map(|(part, _, _)| *part).filter(|part| self.breaks(*part)).collect()
+    }
+
+    fn breaks(&self, part: Part) -> bool {
+        let slots = self.slot_count();
+        let there = &self.entries[..slots.min(MOST_SLOTS)];
+        let default_has = |word: usize, bits: u32| {
+            let of_word = self.defaults.iter().skip(word).step_by(WORDS_PER_SLOT);
+            of_word.take(slots).any(|default| default & bits != 0)
+        };
+        match part {
+            Part::NoSlots => slots == 0,
+            Part::ManySlots => slots > MOST_SLOTS,
+            Part::Statuses => self.statuses != slots.min(MOST_SLOTS),
+            Part::LiveWords => self.live_words != slots * WORDS_PER_SLOT,
+            Part::DefaultWords => self.defaults.len() != slots * WORDS_PER_SLOT,
+            Part::NoQueue => self.cells == 0,
+            Part::LongQueue => self.cells > MOST_CELLS,
+            Part::ResetCode => there.iter().any(|entry| !entry.reset.is_allowed()),
+            Part::DlUpCode => there.iter().any(|entry| !entry.dl_up.is_allowed()),
+            Part::FlrCode => there.iter().any(|entry| !entry.flr.is_allowed()),
+            Part::D3hotCode => there.iter().any(|entry| !entry.d3hot.is_allowed()),
+            Part::Bit15 => default_has(DEVICE_CONTROL, 1 << 15),
+            Part::Bit21 => default_has(DEVICE_CONTROL, 1 << 21),
+            Part::PowerState => default_has(PMCSR, 3),
+        }
+    }
+}
+
+#[cfg(test)]
+mod tests {
+    use super::*;
+    use crate::generate::setups;
+    use crate::random::Random;
+
+    #[test]
+    fn a_refusal_is_that_of_the_first_part_that_is_broken() {
+        for number in 0..20_000 {
+            let mut random = Random::for_case(21, number);
+            let setup = if number % 4 == 0 { setups::good } else { setups::bad }(&mut random);
+            let broken = setup.broken_parts();
+            let first = PARTS.iter().find(|(part, _, _)| broken.contains(part));
+            assert_eq!(setup.refusal(Fault::None), first.map(|(_, number, _)| *number));
+        }
     }
 }

@@ -1,7 +1,7 @@
 //! A case in readable form, and as hex.
 
 use crate::records::record_length;
-use crate::setup::Setup;
+use crate::setup::{Setup, SlotEntry};
 use crate::state::{Port, State, Status};
 use crate::stream::{put_case, Case, Operation, VERSION};
 
@@ -27,16 +27,25 @@ fn words(name: &str, words: &[u32]) -> String {
     format!("  {name} (others 0): {}\n", listed.join(" "))
 }
 
+/// Edition, V and parent, where they aren't the defaults.
+fn show_later_fields(entry: &SlotEntry) -> String {
+    let SlotEntry { edition, v, parent, .. } = entry;
+    match (edition, v.0, parent) {
+        (1, 0, None) => String::new(),
+        _ => format!(", edition {edition}, V {:03X}h, parent {parent:?}", v.0),
+    }
+}
+
 fn show_setup(setup: &Setup) -> String {
     let mut text = format!(
-        "slots {}, statuses {}, live words {}, default words {}, queue cells {}, B {}, port ID {:04X}h\n",
+        "slots {}, statuses {}, live words {}, default words {}, queue cells {}, B {}, port ID {:04X}h{}\n",
         setup.slots, setup.statuses, setup.live_words, setup.defaults.len(), setup.cells,
-        setup.bus, setup.port_id
+        setup.bus, setup.port_id, if setup.conventional { ", conventional" } else { "" }
     );
     for (slot, entry) in setup.entries.iter().enumerate().take(setup.slot_count()) {
         let codes = entry.codes().map(|code| format!("{:03X}h", code.0)).join(" ");
         let sends = if entry.sends_frs { "sends FRS" } else { "sends none" };
-        text += &format!("  slot {slot}: codes {codes}, {sends}\n");
+        text += &format!("  slot {slot}: codes {codes}, {sends}{}\n", show_later_fields(entry));
     }
     text + &words("default words", &setup.defaults)
 }
@@ -54,8 +63,9 @@ fn show_port(port: &Port) -> String {
     ];
     let set: Vec<&str> = bits.iter().filter(|(_, bit)| *bit).map(|(name, _)| *name).collect();
     format!(
-        "  clock {}, set: {}; signalling {}, queue start {}, depth {}, carried {} of {}\n",
+        "  clock {}, last reset {}, set: {}; signalling {}, queue start {}, depth {}, carried {} of {}\n",
         port.clock.0,
+        port.reset_at.0,
         set.join(", "),
         port.signalling,
         port.start,
@@ -78,13 +88,24 @@ fn show_state(state: &State) -> String {
 fn show_operation(operation: &Operation) -> String {
     match operation {
         Operation::SetUp => "set-up\n".to_string(),
-        Operation::Lend(state) => format!("lend this state\n{}", show_state(state)),
+        Operation::Lend { state, noise: 0 } => format!("lend this state\n{}", show_state(state)),
+        Operation::Lend { state, .. } => {
+            format!("lend this state, with bytes that are ignored\n{}", show_state(state))
+        }
         Operation::Feed { room, input } => {
             let mut text = format!("feed, room {room}, {} bytes\n", input.len());
             for record in split_records(input) {
                 text += &format!("  {}\n", hex(record));
             }
             text
+        }
+        Operation::WriteMessage { kind, id, reason, room } => {
+            format!(
+                "write a message, kind {kind:02X}h, ID {id:04X}h, reason {reason}, room {room}\n"
+            )
+        }
+        Operation::ReadMessage(bytes) => {
+            format!("read a message, {} bytes\n  {}\n", bytes.len(), hex(bytes))
         }
     }
 }

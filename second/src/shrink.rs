@@ -1,9 +1,10 @@
 //! Making a failing case smaller while it still fails.
 
+use crate::messages::FRS;
 use crate::setup::{SlotEntry, MOST_SLOTS, WORDS_PER_SLOT};
 use crate::show::split_records;
 use crate::state::{Cause, Port, State, Status};
-use crate::stream::{Case, Operation};
+use crate::stream::{Case, Operation, MOST_BYTES};
 use crate::times::{Code, Nanos};
 
 /// Tries smaller cases until none fails any more or the tries run out.
@@ -32,6 +33,7 @@ pub fn shrink(case: Case, tries: usize, mut fails: impl FnMut(&Case) -> bool) ->
 /// Smaller cases, the most hopeful first.
 fn candidates(case: &Case) -> Vec<Case> {
     let mut all = without_operations(case);
+    all.extend(joined_feeds(case));
     all.extend(fewer_slots(case));
     all.extend(fewer_cells(case));
     for index in 0..case.operations.len() {
@@ -61,6 +63,26 @@ fn without_operations(case: &Case) -> Vec<Case> {
     all
 }
 
+/// The same case with two feeds that follow each other made one.
+fn joined_feeds(case: &Case) -> Vec<Case> {
+    let mut all = Vec::new();
+    for (index, pair) in case.operations.windows(2).enumerate() {
+        let [Operation::Feed { room, input }, Operation::Feed { room: more, input: rest }] = pair
+        else {
+            continue;
+        };
+        let room = usize::from(room + more).min(MOST_BYTES) as u16;
+        let input = [&input[..], rest].concat();
+        if input.len() <= MOST_BYTES {
+            let mut next = case.clone();
+            next.operations.remove(index);
+            next.operations[index] = Operation::Feed { room, input };
+            all.push(next);
+        }
+    }
+    all
+}
+
 /// The same case without its last slot, if all lengths fit the slots.
 fn fewer_slots(case: &Case) -> Option<Case> {
     let setup = &case.setup;
@@ -76,7 +98,7 @@ fn fewer_slots(case: &Case) -> Option<Case> {
     next.setup.live_words -= WORDS_PER_SLOT;
     next.setup.defaults.truncate(words - WORDS_PER_SLOT);
     for operation in &mut next.operations {
-        if let Operation::Lend(state) = operation {
+        if let Operation::Lend { state, .. } = operation {
             state.statuses.pop();
             state.live.truncate(words - WORDS_PER_SLOT);
         }
@@ -93,7 +115,7 @@ fn fewer_cells(case: &Case) -> Vec<Case> {
         changed(case, |next| {
             next.setup.cells = cells;
             for operation in &mut next.operations {
-                if let Operation::Lend(state) = operation {
+                if let Operation::Lend { state, .. } = operation {
                     state.cells.truncate(cells);
                 }
             }
@@ -106,11 +128,42 @@ fn simpler_operations(operation: &Operation) -> Vec<Operation> {
     match operation {
         Operation::SetUp => Vec::new(),
         Operation::Feed { room, input } => simpler_feeds(*room, input),
-        Operation::Lend(state) => {
-            let states = simpler_states(state).into_iter();
-            states.map(|state| Operation::Lend(Box::new(state))).collect()
+        Operation::Lend { state, noise } => simpler_lends(state, *noise),
+        Operation::WriteMessage { kind, id, reason, room } => {
+            simpler_writes(*kind, *id, *reason, *room)
         }
+        Operation::ReadMessage(bytes) => simpler_readings(bytes),
     }
+}
+
+fn simpler_lends(state: &State, noise: u64) -> Vec<Operation> {
+    let quiet = (noise != 0).then(|| Operation::Lend { state: Box::new(state.clone()), noise: 0 });
+    let states = simpler_states(state).into_iter();
+    let lends = states.map(|state| Operation::Lend { state: Box::new(state), noise });
+    quiet.into_iter().chain(lends).collect()
+}
+
+fn simpler_writes(kind: u8, id: u16, reason: u8, room: u8) -> Vec<Operation> {
+    vec![
+        Operation::WriteMessage { kind, id: 0, reason, room },
+        Operation::WriteMessage { kind, id, reason: 0, room },
+        Operation::WriteMessage { kind: FRS, id, reason, room },
+        Operation::WriteMessage { kind, id, reason, room: 16 },
+        Operation::WriteMessage { kind, id, reason, room: room / 2 },
+    ]
+}
+
+/// Fewer bytes, and each byte 0 in turn.
+fn simpler_readings(bytes: &[u8]) -> Vec<Operation> {
+    let shorter = [0, bytes.len() / 2, bytes.len().saturating_sub(1)];
+    let mut all: Vec<Operation> =
+        shorter.iter().map(|length| Operation::ReadMessage(bytes[..*length].to_vec())).collect();
+    for place in (0..bytes.len()).filter(|place| bytes[*place] != 0) {
+        let mut next = bytes.to_vec();
+        next[place] = 0;
+        all.push(Operation::ReadMessage(next));
+    }
+    all
 }
 
 fn simpler_feeds(room: u16, input: &[u8]) -> Vec<Operation> {
@@ -188,10 +241,10 @@ fn simpler_states(state: &State) -> Vec<State> {
 fn simpler_setups(case: &Case) -> Vec<Case> {
     let mut all = vec![
         changed(case, |next| next.setup.defaults.fill(0)),
-        changed(case, |next| next.setup.entries = [SlotEntry::ZERO; MOST_SLOTS]),
+        changed(case, |next| next.setup.entries = [SlotEntry::BLANK; MOST_SLOTS]),
         changed(case, |next| {
             let slots = next.setup.slot_count().min(MOST_SLOTS);
-            next.setup.entries[slots..].fill(SlotEntry::ZERO);
+            next.setup.entries[slots..].fill(SlotEntry::BLANK);
         }),
         changed(case, |next| next.setup.bus = 0),
         changed(case, |next| next.setup.port_id = 0),
@@ -199,7 +252,7 @@ fn simpler_setups(case: &Case) -> Vec<Case> {
     for slot in 0..case.setup.slot_count().min(MOST_SLOTS) {
         let entry = case.setup.entries[slot];
         let simpler = [
-            SlotEntry::ZERO,
+            SlotEntry::BLANK,
             SlotEntry { reset: Code(0), ..entry },
             SlotEntry { dl_up: Code(0), ..entry },
             SlotEntry { flr: Code(0), ..entry },
@@ -233,5 +286,18 @@ mod tests {
         assert!(differs(&small));
         assert!(small.operations.len() <= 2);
         assert_eq!(small.setup.slots, 1);
+    }
+
+    #[test]
+    fn a_message_shrinks_to_itself_alone() {
+        for fault in [Fault::WriterReasonMasked, Fault::ReaderLongTaken] {
+            let differs = |case: &Case| run_case(case, fault) != run_case(case, Fault::None);
+            let mut cases = (0..2000).map(|number| generate::case(2, number));
+            let found = cases.find(|case| differs(case));
+            let small = shrink(found.expect("the fault shows"), 3000, differs);
+            assert!(differs(&small));
+            assert_eq!(small.operations.len(), 1);
+            assert_eq!(small.setup.slots, 1);
+        }
     }
 }

@@ -1,6 +1,7 @@
 //! Refusal 5: a port or statuses that are unsound, clause by clause.
 
 use crate::bench::Bench;
+use crate::faults::Fault;
 use crate::records::record_length;
 use crate::state::{Cause, State, Status, MOST_CARRIED};
 use crate::times::{GREATEST_TIME, LAST_MOMENT};
@@ -104,9 +105,19 @@ pub fn broken_clauses(state: &State) -> Vec<Clause> {
     all.filter(|clause| breaks(*clause, state)).collect()
 }
 
+/// A check that only a faulty bench makes.
+fn needlessly_unsound(state: &State, fault: Fault) -> bool {
+    let count = usize::from(state.port.carried_count).min(MOST_CARRIED);
+    fault == Fault::CarriedPastCountRefused
+        && state.port.carried[count..].iter().any(|byte| *byte != 0)
+}
+
 impl Bench<'_> {
     /// Whether refusal 5 applies.
     pub fn is_unsound(&self) -> bool {
+        if needlessly_unsound(&self.state, self.fault) {
+            return true;
+        }
         CLAUSES.iter().any(|(clause, _)| !self.fault.skips(*clause) && breaks(*clause, &self.state))
     }
 }

@@ -28,6 +28,8 @@ pub const MOST_CARRIED: usize = 16;
 #[derive(Clone, PartialEq, Eq, Debug)]
 pub struct Port {
     pub clock: Nanos,
+    /// The moment of the last reset; 0 until Q-2.
+    pub reset_at: Nanos,
     pub link: bool,
     pub owed: bool,
     pub received: bool,
@@ -47,6 +49,7 @@ impl Port {
     pub fn zero() -> Port {
         Port {
             clock: Nanos(0),
+            reset_at: Nanos(0),
             link: false,
             owed: false,
             received: false,

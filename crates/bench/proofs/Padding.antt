@@ -3,12 +3,11 @@
 -- Assumes nothing.
 use Prim.Native.Nat.{ℕ, _-_, _<_, _≤_}
 use mathlib.Core.Path.{_≡_, refl, ap, sym, _∙_}
-use mathlib.Core.Bool.{false}
 use mathlib.Core.List.{List, _++_, append-nil}
 use native.Mathlib.Omega.{arith}
 use lib.ListN.{length, take, drop, replicate, length-append, length-replicate, drop-of-length-le, take-append-drop}
 use lib.Seq.{take-all, take-at, take-append-seam}
-use Rattle.bits.proofs.Tests.{untrue}
+use Rattle.bits.proofs.Numbers.{by-le}
 use Rattle.trace.specs.Lent.{Left, unchanged, unless}
 use Rattle.trace.proofs.Refusing.{refusal-set-up, stops-refused, feeds-stopped}
 use Rattle.readiness.specs.declared.Status.{Status}
@@ -18,17 +17,15 @@ use Rattle.records.specs.declared.Port.{Port}
 use Rattle.feed.specs.declared.Fed.{Fed}
 use Rattle.set_up.specs.declared.SetUp.{SetUp}
 use Rattle.demand3.specs.Held.{Held, held, lentOf}
-use Rattle.demand3.specs.Refusals.{lengthsFit, firstFailed, setUpTests, setUpRefusal}
 use Rattle.demand3.specs.SettingUp.{Prepared, freshHeld, setsUp}
 use Rattle.set_up.specs.Prepared.{prepared}
 use Rattle.demand3.specs.Feeding.{bench, feeds}
 use Rattle.feed.specs.Left.{left}
 use Rattle.set_up.proofs.Lent.{length-lent, lent-take}
-use Rattle.demand3.proofs.Refusals.{fits-of}
+use Rattle.set_up.proofs.Stopping.{too-many}
 use Rattle.bench.specs.declared.Outcome.{Outcome}
 use Rattle.statuses.specs.Statuses.{storedOver}
 use Rattle.bench.specs.Entries.{leftBySetUp, leftByFeed}
-use Rattle.statuses.proofs.Copies.{by-le}
 
 -- the statuses as the core has them
 abbrev pub given : List Status → List Status
@@ -62,22 +59,15 @@ stored-many l array h e s =
     ∙ ap (λ (r : List Status). r ++ drop 32 l) whole
     ∙ take-append-drop 32 l
 
-misfit : (slots n live defaults : ℕ) → 32 < n → lengthsFit slots n live defaults ≡ false
-misfit slots n live defaults h = untrue (lengthsFit slots n live defaults) (λ t. let f = fits-of slots n live defaults t in omega (arith, f .most, f .perSlot))
-
-refused-many : (setup : Setup) (defaults : List ℕ) (h : Held) → 32 < length (h .statuses) → setUpRefusal setup defaults h ≡ 1
-unfolding setUpRefusal setUpTests firstFailed
-refused-many setup defaults h m = rw (misfit (setup .slots) (length (h .statuses)) (length (h .live)) (length defaults) m)
-
 pub set-up-many : (setup : Setup) (defaults : List ℕ) (h : Held) → 32 < length (h .statuses) → setsUp setup defaults h ≡ record { number = 1; held = h }
 unfolding setsUp
 set-up-many setup defaults h m =
-    ap (λ (n : ℕ). unless n (λ (k : ℕ). record { number = k; held = h }) (record { number = 0; held = freshHeld setup defaults h })) (refused-many setup defaults h m)
+    ap (λ (n : ℕ). unless n (λ (k : ℕ). record { number = k; held = h }) (record { number = 0; held = freshHeld setup defaults h })) (sym (too-many setup defaults h m))
 
 pub fed-many : (setup : Setup) (defaults : List ℕ) (h : Held) (input answers : List ℕ) → 32 < length (h .statuses) → feeds setup defaults h input answers ≡ unchanged h answers 1
 fed-many setup defaults h input answers m =
     let L = bench setup defaults in
-    feeds-stopped L h input answers 0 (stops-refused L h 0 (refusal-set-up L h 0 (refused-many setup defaults h m)))
+    feeds-stopped L h input answers 0 (stops-refused L h 0 (refusal-set-up L h 0 (sym (too-many setup defaults h m))))
 
 -- ---- so what the core gives for the array is what is said of the statuses that are lent
 module _ (setup : Setup) (defaults : List ℕ) (port : Port) (l : List Status) (live cells : List ℕ) where

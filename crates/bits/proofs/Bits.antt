@@ -23,6 +23,10 @@ one-lt : (b : Bool) → one b < 2
 one-lt true = omega arith
 one-lt false = omega arith
 
+pub one-most : (b : Bool) → one b ≤ 1
+one-most true = omega arith
+one-most false = omega arith
+
 -- a digit is 0 or 1
 digit-of : (d : ℕ) → d < 2 → d ≡ one (eqb d 1)
 digit-of zero h = refl

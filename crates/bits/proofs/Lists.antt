@@ -1,18 +1,19 @@
--- A list that a loop replaces element by element: what is done, and then what is left of the old list.
+-- Lists: the one that a loop makes element by element, what is done and then what is left of the old list; one by its elements; fronts and padding.
 -- Assumes nothing.
-use mathlib.Core.Path.{_≡_, refl, sym, ap, _∙_}
+use mathlib.Core.Path.{_≡_, refl, sym, ap, ap₂, _∙_}
 use mathlib.Core.Bool.{Bool, true, false, cond}
 use mathlib.Core.Logic.{⊎-elim}
 use mathlib.Core.List.{List, [], _∷_, _++_, append-assoc, append-nil}
-use Prim.Native.Nat.{ℕ, zero, suc, _+_, _<_, _≤_}
+use Prim.Native.Nat.{ℕ, zero, suc, _+_, _-_, _<_, _≤_, min}
 use native.Mathlib.Nat.{eq-or-lt-of-le}
 use native.Mathlib.Numerals.{add-one}
 use native.Mathlib.Omega.{arith}
 use lib.Dec.{eqb, ltb}
-use lib.ListN.{length, getD, set, drop, length-append, length-set, drop-of-length-le, List·getD-append, List·getD-eq-default}
-use lib.Seq.{drop-cons, set-at, getD-at, getD-append-add, getD-drop, getD-set-same, getD-set-other, ext-getD}
+use lib.ListN.{length, getD, set, take, drop, replicate, length-append, length-set, length-replicate, drop-of-length-le, List·getD-append, List·getD-eq-default}
+use lib.Seq.{drop-cons, take-suc, take-all, take-append-seam, append-snoc, length-take-le, set-at, set-append-seam, getD-at, getD-append-add, getD-take, getD-drop, getD-set-same, getD-set-other, ext-getD}
 use borrow.Author.Tests.{eqb-true, eqb-false, ltb-true, ltb-false}
 use Rattle.bits.specs.Lists.{listed, replaced}
+use Rattle.bits.proofs.Numbers.{by-le}
 
 -- the first i elements are done
 unfoldable pub done : ℕ → (ℕ → ℕ) → List ℕ → List ℕ
@@ -117,3 +118,76 @@ replaced-more p q f l n h t e =
           ∙ ap (λ (b : Bool). cond b (f i) (getD l i 0)) (sym (e i (eqb-false i n s)))
     ] in
     is-replaced q f l (set (replaced p f l) n (f n)) (length-set (replaced p f l) n (f n) ∙ length-replaced p f l) (λ i m. at i m (eqb i n) refl)
+
+-- ---- the first n elements, where there may be fewer
+
+module _ {A : Type 0} where
+  pub take-min : (n : ℕ) (l : List A) → take (min n (length l)) l ≡ take n l
+  take-min n l =
+      by-le n (length l)
+      (λ h. let e : min n (length l) ≡ n = omega arith in ap (λ (k : ℕ). take k l) e)
+      (λ h. take-all (min n (length l)) l (omega arith) ∙ sym (take-all n l (omega arith)))
+
+  pub drop-min : (n : ℕ) (l : List A) → drop (min n (length l)) l ≡ drop n l
+  drop-min n l =
+      by-le n (length l)
+      (λ h. let e : min n (length l) ≡ n = omega arith in ap (λ (k : ℕ). drop k l) e)
+      (λ h.
+      let a : length l ≤ min n (length l) = omega arith in
+      let b : length l ≤ n = omega arith in
+      drop-of-length-le l a ∙ sym (drop-of-length-le l b))
+
+  -- an element that is there, whatever stands for one past the end
+  pub getD-any : (l : List A) (i : ℕ) (d e : A) → i < length l → getD l i d ≡ getD l i e
+  getD-any [] i d e h = absurd (omega arith)
+  getD-any (a ∷ l) zero d e h = refl
+  getD-any (a ∷ l) (suc i) d e h = getD-any l i d e (omega arith)
+
+  -- the same element everywhere, and past the end
+  pub getD-same : (n i : ℕ) (a : A) → getD (replicate n a) i a ≡ a
+  getD-same zero i a = refl
+  getD-same (suc n) zero a = refl
+  getD-same (suc n) (suc i) a = getD-same n i a
+
+  -- ---- a list that a loop fills from the front: the first i of the new one, then what is left of the old one
+
+  abbrev pub front : ℕ → (new old : List A) → List A
+  front i new old = take i new ++ drop i old
+
+  pub front-more : (i : ℕ) (new old : List A) (d : A) → i < length new → i < length old → set (front i new old) i (getD new i d) ≡ front (i + 1) new old
+  front-more i new old d h k =
+      let v = getD new i d in
+      rw (add-one, drop-cons old i d, take-suc new i d)
+      (set-at (take i new) (getD old i d) (drop (suc i) old) v i (length-take-le i new (omega arith))
+      ∙ sym (append-assoc (take i new) (v ∷ []) (drop (suc i) old)))
+
+  pub front-all : (i : ℕ) (new old : List A) → length new ≤ i → length old ≤ i → front i new old ≡ new
+  front-all i new old h k = ap₂ _++_ (take-all i new h) (drop-of-length-le old k) ∙ append-nil new
+
+  -- ---- a list with the same element after it, m in all
+
+  abbrev pub padded : A → ℕ → List A → List A
+  padded a m l = l ++ replicate (m - length l) a
+
+  pub length-padded : (a : A) (m : ℕ) (l : List A) → length l ≤ m → length (padded a m l) ≡ m
+  length-padded a m l h = length-append l _ ∙ rw length-replicate (omega arith)
+
+  pub take-padded : (a : A) (m : ℕ) (l : List A) → take (length l) (padded a m l) ≡ l
+  take-padded a m l = take-append-seam l _
+
+  -- one more element after the first j
+  pub padded-more : (a : A) (m : ℕ) (l : List A) (j : ℕ) → j < m → j < length l → set (padded a m (take j l)) j (getD l j a) ≡ padded a m (take (j + 1) l)
+  padded-more a m l j h k =
+      let c = take j l in
+      let n : length c ≡ j = length-take-le j l (omega arith) in
+      let b = getD l j a in
+      let e : m - length c ≡ suc (m - length (c ++ b ∷ [])) = omega (arith, length-append c (b ∷ [])) in
+      ap (λ (i : ℕ). set (padded a m c) i b) (sym n)
+      ∙ ap (λ (i : ℕ). set (c ++ replicate i a) (length c) b) e
+      ∙ set-append-seam c a (replicate (m - length (c ++ b ∷ [])) a) b
+      ∙ sym (append-snoc c b (replicate (m - length (c ++ b ∷ [])) a))
+      ∙ ap (padded a m) (sym (take-suc l j a k) ∙ ap (λ (i : ℕ). take i l) (sym (add-one j)))
+
+  -- an element of the first n of a list, with others after them
+  pub getD-front : (l r : List A) (n i : ℕ) (d : A) → i < n → n ≤ length l → getD (take n l ++ r) i d ≡ getD l i d
+  getD-front l r n i d h k = List·getD-append (take n l) r d i (omega (arith, length-take-le n l k)) ∙ getD-take n l i d h

@@ -1,7 +1,7 @@
 -- Laws by a test that antt computes: at every number below a bound, and at every choice of some Bools.
 -- Assumes nothing.
-use mathlib.Core.Path.{_≡_, refl, sym, subst}
-use mathlib.Core.Bool.{Bool, true, false, _&&_, Bool·beq}
+use mathlib.Core.Path.{_≡_, refl, sym, subst, _∙_}
+use mathlib.Core.Bool.{Bool, true, false, not, _&&_, _||_, Bool·beq, true≢false, or-true}
 use mathlib.Core.Logic.{⊎-elim}
 use Prim.Native.Nat.{ℕ, zero, suc, _<_}
 use native.Mathlib.Nat.{eq-or-lt-of-le}
@@ -74,3 +74,23 @@ both a b e d = rw (e, d) refl
 pub untrue : (a : Bool) → (a ≡ true → ⊥) → a ≡ false
 untrue true f = absurd (f refl)
 untrue false f = refl
+
+-- ---- a test by its value
+
+pub split : {P : Type 0} (t : Bool) → (t ≡ true → P) → (t ≡ false → P) → P
+split true f g = f refl
+split false f g = g refl
+
+pub not-both : {P : Type 0} {t : Bool} → t ≡ true → t ≡ false → P
+not-both e f = absurd (true≢false (sym e ∙ f))
+
+pub is-true : (t : Bool) → T t → t ≡ true
+is-true true h = refl
+is-true false h = absurd h
+
+pub is-false : (t : Bool) → T (not t) → t ≡ false
+is-false true h = absurd h
+is-false false h = refl
+
+pub or-last : (a b : Bool) → b ≡ true → (a || b) ≡ true
+or-last a b e = rw e (or-true a)

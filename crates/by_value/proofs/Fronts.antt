@@ -3,9 +3,8 @@
 use Prim.Native.Nat.{ℕ, _<_, _≤_, min}
 use mathlib.Core.Path.{_≡_, refl, ap, sym, _∙_}
 use mathlib.Core.List.{List, [], _++_}
-use native.Mathlib.Omega.{arith}
-use lib.ListN.{length, take, drop, drop-of-length-le}
-use lib.Seq.{take-all}
+use lib.ListN.{length, take, drop}
+use Rattle.bits.proofs.Lists.{take-min, drop-min}
 use Rattle.trace.specs.Lent.{Left}
 use Rattle.readiness.specs.declared.Status.{Status}
 use Rattle.readiness.specs.declared.Setup.{Setup}
@@ -16,22 +15,12 @@ use Rattle.demand3.specs.Feeding.{feeds}
 use Rattle.bench.specs.declared.Outcome.{Outcome}
 use Rattle.bench.specs.Entries.{leftBySetUp, leftByFeed}
 use Rattle.by_value.specs.First.{andRest, setsUpFirst, feedsFirst}
-use Rattle.statuses.proofs.Copies.{by-le}
 
 take-most : (n k : ℕ) (xs : List Status) → k ≡ min n (length xs) → take k xs ≡ take n xs
-take-most n k xs e =
-    by-le n (length xs)
-    (λ h. let i : k ≡ n = omega arith in ap (λ (j : ℕ). take j xs) i)
-    (λ h. take-all k xs (omega arith) ∙ sym (take-all n xs (omega arith)))
+take-most n k xs e = ap (λ (j : ℕ). take j xs) e ∙ take-min n xs
 
 drop-most : (n k : ℕ) (xs : List Status) → k ≡ min n (length xs) → drop k xs ≡ drop n xs
-drop-most n k xs e =
-    by-le n (length xs)
-    (λ h. let i : k ≡ n = omega arith in ap (λ (j : ℕ). drop j xs) i)
-    (λ h.
-    let a : length xs ≤ k = omega arith in
-    let b : length xs ≤ n = omega arith in
-    drop-of-length-le xs {i = k} a ∙ sym (drop-of-length-le xs {i = n} b))
+drop-most n k xs e = ap (λ (j : ℕ). drop j xs) e ∙ drop-min n xs
 
 module _ (setup : Setup) (defaults : List ℕ) (port : Port) (xs : List Status) (live cells : List ℕ) (n k : ℕ) (few : k ≡ min n (length xs)) (p : Port) (ss : List Status) (live₁ cells₁ : List ℕ) where
   abbrev atEntry : Held

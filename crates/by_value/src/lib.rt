@@ -4,12 +4,12 @@ ghost use Rattle.demand3.specs.Held.{held};
 ghost use Rattle.bench.specs.Entries.{leftBySetUp, leftByFeed};
 ghost use Rattle.by_value.specs.First.{setsUpFirst, feedsFirst};
 use bench::Outcome;
+use bits::at_most;
 use feed::Fed;
 use readiness::Setup;
 use readiness::Status;
 use records::Port;
 use set_up::SetUp;
-use statuses::at_most_32;
 
 fn set_up_with(number: u8, port: Port, statuses: [Status; 32]) -> SetUp
     ensures { λ r. ⌜ r ≡ record { number = number; port = port; statuses = statuses } ⌝ }
@@ -36,7 +36,7 @@ pub fn set_up_first(
 {
     let mut own = port;
     let mut array = statuses;
-    let k = at_most_32(n);
+    let k = at_most(n, 32);
     let number = bench::set_up(setup, &mut own, &mut array[..k], live, defaults, cells);
     set_up_with(number, own, array)
 }
@@ -70,7 +70,7 @@ pub fn feed_first(
 {
     let mut own = port;
     let mut array = statuses;
-    let k = at_most_32(n);
+    let k = at_most(n, 32);
     let outcome = bench::feed(
         setup,
         &mut own,

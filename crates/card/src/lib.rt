@@ -4,8 +4,9 @@ ghost use Prim.Native.Nat.{_+_, _<_, _≤_};
 ghost use mathlib.Core.Bool.{_&&_, cond};
 ghost use lib.Dec.{eqb, leb, ltb};
 ghost use lib.ListN.{length, drop, getD, set};
+ghost use Rattle.bits.specs.Bits.{one};
 ghost use Rattle.fields.specs.Text.{numberAt, runEnd, inLine, field, noField, same, noNumber, numberOf, linesOf};
-ghost use Rattle.card_grammar.specs.Sheet.{notNamed, wordPlace, entryPlace, slotAt, hexAt, codeAt, named, isFine, firstOf, unfit as unfitOf, wantsWord, wantsNumber, wantsEnd, inRange, notTwice, slotAllowed, entered, put as putOf, whyNotNumber, enterNumber, offsetAllowed, wordAllowed, whyNotWord, enterWord, wantsCode, wantsYesNo, oneIf, isYes, whyNotCodes, whyNotFrs, whyNotSlot, putCode, putFrs, enterSlot, enterLine, told as toldOf, readLines};
+ghost use Rattle.card_grammar.specs.Sheet.{notNamed, wordPlace, entryPlace, slotAt, hexAt, codeAt, named, isFine, firstOf, unfit as unfitOf, wantsWord, wantsNumber, wantsEnd, inRange, notTwice, slotAllowed, entered, put as putOf, whyNotNumber, enterNumber, offsetAllowed, wordAllowed, whyNotWord, enterWord, wantsCode, wantsYesNo, isYes, whyNotCodes, whyNotFrs, whyNotSlot, putCode, putFrs, enterSlot, enterLine, told as toldOf, readLines};
 ghost use Rattle.card_grammar.specs.declared.Reason.the-variants.{Fine};
 ghost use Rattle.card_grammar.specs.Card.{namedBelow, codeFrom, slotFrom, slotsFrom, setupFrom, mustBeNamed, missing as missingOf, room as roomOf, storedWords, outcome, cardOf};
 use card_grammar::CardRead;
@@ -276,7 +277,7 @@ fn wants_yes_no(line: &[u8], k: usize) -> Reason
 }
 
 fn one_if(yes: bool) -> usize
-    ensures { λ r. ⌜ r ≡ oneIf yes ⌝ }
+    ensures { λ r. ⌜ r ≡ one yes ⌝ }
 {
     if yes { 1 } else { 0 }
 }

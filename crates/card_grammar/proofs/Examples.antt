@@ -13,13 +13,13 @@ use Rattle.card_grammar.specs.declared.Reason.the-variants.{Fine, Unknow
 use Rattle.card_grammar.specs.declared.CardRead.{CardRead}
 use Rattle.card_grammar.specs.Sheet.{firstOf, unfit, wantsWord, wantsNumber, wantsEnd, inRange, notTwice, slotAllowed, put, whyNotNumber, enterNumber, offsetAllowed, wordAllowed, whyNotWord, enterWord, wantsYesNo, wantsCode, whyNotCodes, whyNotFrs, whyNotSlot, putCode, putFrs, enterSlot, enterLine, readLines}
 use Rattle.card_grammar.specs.Card.{slotsFrom, setupFrom, missing, room, wordsFrom, storedWords, Outcome, outcomeFrom, cardOf}
-use Rattle.fields.specs.Bytes.{bytesOf}
+use Rattle.bits.specs.Text.{chars}
 use Rattle.fields.specs.Text.{inLine, linesOf, isBlank, inField, run, runEnd, fieldStart, field, noField, same, digitOf, valueFrom, widthAllowed, numberOf}
 
 -- ---- whole texts, with 2,048 words lent
 
 abbrev reading : String → CardRead
-reading text = cardOf (bytesOf text) (replicate 2048 0) .read
+reading text = cardOf (chars text) (replicate 2048 0) .read
 
 -- marked case 10
 abbrev case10 : String
@@ -40,7 +40,7 @@ unfolding linesOf inLine fieldStart run isBlank inField noField same digitOf val
 case-10 = refl
 
 -- the first default word
-case-10-words : getD (cardOf (bytesOf case10) (replicate 2048 0xEEEEEEEE) .words) 0x00 0 ≡ 0x56781234
+case-10-words : getD (cardOf (chars case10) (replicate 2048 0xEEEEEEEE) .words) 0x00 0 ≡ 0x56781234
 unfolding linesOf inLine fieldStart run isBlank inField noField same digitOf valueFrom widthAllowed numberOf firstOf unfit wantsWord wantsNumber wantsEnd inRange notTwice slotAllowed put whyNotNumber enterNumber offsetAllowed wordAllowed whyNotWord enterWord wantsYesNo wantsCode whyNotCodes whyNotFrs whyNotSlot putCode putFrs enterSlot enterLine readLines missing room outcomeFrom cardOf wordsFrom storedWords listed
 case-10-words = refl
 
@@ -139,6 +139,6 @@ unfolding linesOf inLine fieldStart run isBlank inField noField same digitOf val
 least-cards = refl
 
 -- 2,048 words must be lent
-too-few-words : cardOf (bytesOf case10) (replicate 2047 0) .read .reason ≡ NoRoom
+too-few-words : cardOf (chars case10) (replicate 2047 0) .read .reason ≡ NoRoom
 unfolding linesOf inLine fieldStart run isBlank inField noField same digitOf valueFrom widthAllowed numberOf firstOf unfit wantsWord wantsNumber wantsEnd inRange notTwice slotAllowed put whyNotNumber enterNumber offsetAllowed wordAllowed whyNotWord enterWord wantsYesNo wantsCode whyNotCodes whyNotFrs whyNotSlot putCode putFrs enterSlot enterLine readLines missing room outcomeFrom cardOf
 too-few-words = refl

@@ -10,11 +10,13 @@ use lib.Dec.{eqb, leb, ltb}
 use lib.ListN.{length, getD, set, replicate, getD-replicate, length-replicate, List·getD-eq-default}
 use lib.Seq.{set-out, getD-set-same, getD-set-other}
 use borrow.Author.Tests.{leb-true, ltb-true, ltb-false, eqb-true, eqb-false, lt-ltb, le-ltb, le-leb}
-use Rattle.bits.proofs.Tests.{both-left, both-right}
+use Rattle.bits.specs.Bits.{one}
+use Rattle.bits.proofs.Bits.{one-most}
+use Rattle.bits.proofs.Tests.{both-left, both-right, not-both, or-last}
 use Rattle.card_grammar.specs.declared.Reason.{Reason}
 use Rattle.card_grammar.specs.declared.Reason.the-variants.{Fine, BadNumber, LineTooShort, OutOfRange, SlotsFirst, Missing}
 use Rattle.fields.specs.Text.{numberAt, field, noField, noNumber}
-use Rattle.card_grammar.specs.Sheet.{notNamed, wordPlace, slotsPlace, queuePlace, busPlace, portPlace, entryPlace, places, named, isFine, firstOf, unfit, wantsWord, wantsNumber, inRange, slotAllowed, Entered, entered, put, whyNotNumber, enterNumber, slotAt, hexAt, codeAt, offsetAllowed, wordAllowed, whyNotWord, enterWord, isYes, oneIf, wantsCode, whyNotCodes, whyNotFrs, whyNotSlot, putCode, putFrs, enterSlot, isFact, enterLine, Told, readLines}
+use Rattle.card_grammar.specs.Sheet.{notNamed, wordPlace, slotsPlace, queuePlace, busPlace, portPlace, entryPlace, places, named, isFine, firstOf, unfit, wantsWord, wantsNumber, inRange, slotAllowed, Entered, entered, put, whyNotNumber, enterNumber, slotAt, hexAt, codeAt, offsetAllowed, wordAllowed, whyNotWord, enterWord, isYes, wantsCode, whyNotCodes, whyNotFrs, whyNotSlot, putCode, putFrs, enterSlot, isFact, enterLine, Told, readLines}
 use Rattle.card_grammar.specs.Names.{nameSlots, nameQueue, nameBus, namePort, nameSlot, nameWord, nameReset, nameDlUp, nameFlr, nameD3hot}
 use Rattle.card_grammar.specs.Card.{blankSheet, namedBelow}
 use Rattle.fields.proofs.Numbers.{code-small}
@@ -27,11 +29,11 @@ fine-both a b h = go (isFine a) refl h
   where
     go : (t : Bool) → isFine a ≡ t → isFine (cond t b a) ≡ true → (isFine a ≡ true) × (isFine b ≡ true)
     go true e f = (e, f)
-    go false e f = absurd (false≢true (sym e ∙ f))
+    go false e f = not-both f e
 
 pub fine-test : (t : Bool) (why : Reason) → isFine why ≡ false → isFine (cond t Fine why) ≡ true → t ≡ true
 fine-test true why n h = refl
-fine-test false why n h = absurd (false≢true (sym n ∙ h))
+fine-test false why n h = not-both h n
 
 pub fine-named : (t : Bool) → isFine (cond t Missing Fine) ≡ true → t ≡ false
 fine-named true h = absurd (false≢true h)
@@ -53,10 +55,6 @@ allowed place n = eqb n notNamed || leb (lowest place) n && leb n (highest place
 
 abbrev pub Kept : List ℕ → Type 0
 Kept sheet = (place : ℕ) → allowed place (named place sheet) ≡ true
-
-or-last : (a b : Bool) → b ≡ true → (a || b) ≡ true
-or-last true b e = refl
-or-last false b e = e
 
 allowed-word : (place n : ℕ) → place < 2048 → n ≤ 0xFFFFFFFF → allowed place n ≡ true
 allowed-word place n h l = or-last (eqb n notNamed) _ (simp (lt-ltb place 2048 h, le-leb n 0xFFFFFFFF l, le-leb 0 n (omega arith)))
@@ -143,17 +141,13 @@ unfolding wantsCode
 fine-code name j next line f =
     omega (arith, code-small true (field next line) (fine-number true 3 3 next line (fine-both (wantsWord name j line) (wantsNumber true 3 3 next line) f .1)))
 
-one-most : (t : Bool) → oneIf t ≤ 0xFFF
-one-most true = omega arith
-one-most false = omega arith
-
 kept-slot : (line sheet : List ℕ) → Kept sheet → Kept (enterSlot line sheet .sheet)
 unfolding enterSlot putCode putFrs whyNotSlot whyNotCodes
 kept-slot line sheet k =
     let why : Reason = whyNotSlot line sheet in
     let at : (j n : ℕ) → n ≤ 0xFFF → allowed (entryPlace (slotAt line) j) n ≡ true = λ j n l. allowed-entry (entryPlace (slotAt line) j) n (omega arith) l in
     let codes : isFine why ≡ true → isFine (whyNotCodes line) ≡ true = λ e. fine-both _ _ (fine-both _ _ e .1) .0 in
-    kept-put why (entryPlace (slotAt line) 4) (oneIf (isYes 11 line)) _
+    kept-put why (entryPlace (slotAt line) 4) (one (isYes 11 line)) _
     (kept-put why (entryPlace (slotAt line) 3) (codeAt 9 line) _
     (kept-put why (entryPlace (slotAt line) 2) (codeAt 7 line) _
     (kept-put why (entryPlace (slotAt line) 1) (codeAt 5 line) _
@@ -162,7 +156,7 @@ kept-slot line sheet k =
     (λ e. at 1 (codeAt 5 line) (fine-code nameDlUp 4 5 line (fine-both _ _ (fine-both _ _ (codes e) .1) .0))))
     (λ e. at 2 (codeAt 7 line) (fine-code nameFlr 6 7 line (fine-both _ _ (fine-both _ _ (fine-both _ _ (codes e) .1) .1) .0))))
     (λ e. at 3 (codeAt 9 line) (fine-code nameD3hot 8 9 line (fine-both _ _ (fine-both _ _ (fine-both _ _ (codes e) .1) .1) .1))))
-    (λ e. at 4 (oneIf (isYes 11 line)) (one-most (isYes 11 line)))
+    (λ e. at 4 (one (isYes 11 line)) (omega (arith, one-most (isYes 11 line))))
 
 kept-either : (t : Bool) (a b : Entered) → Kept (a .sheet) → Kept (b .sheet) → Kept (cond t a b .sheet)
 kept-either true a b k l = k

@@ -2,43 +2,43 @@
 -- Assumes nothing.
 use Prim.Native.Nat.{ℕ}
 use mathlib.Core.List.{List}
-use Rattle.fields.specs.Bytes.{bytesOf}
+use Rattle.bits.specs.Text.{chars}
 
 abbrev pub nameSlots : List ℕ
-nameSlots = bytesOf "slots"
+nameSlots = chars "slots"
 
 abbrev pub nameQueue : List ℕ
-nameQueue = bytesOf "queue"
+nameQueue = chars "queue"
 
 abbrev pub nameBus : List ℕ
-nameBus = bytesOf "bus"
+nameBus = chars "bus"
 
 abbrev pub namePort : List ℕ
-namePort = bytesOf "port"
+namePort = chars "port"
 
 abbrev pub nameSlot : List ℕ
-nameSlot = bytesOf "slot"
+nameSlot = chars "slot"
 
 abbrev pub nameWord : List ℕ
-nameWord = bytesOf "word"
+nameWord = chars "word"
 
 abbrev pub nameReset : List ℕ
-nameReset = bytesOf "reset"
+nameReset = chars "reset"
 
 abbrev pub nameDlUp : List ℕ
-nameDlUp = bytesOf "dlup"
+nameDlUp = chars "dlup"
 
 abbrev pub nameFlr : List ℕ
-nameFlr = bytesOf "flr"
+nameFlr = chars "flr"
 
 abbrev pub nameD3hot : List ℕ
-nameD3hot = bytesOf "d3hot"
+nameD3hot = chars "d3hot"
 
 abbrev pub nameFrs : List ℕ
-nameFrs = bytesOf "frs"
+nameFrs = chars "frs"
 
 abbrev pub nameYes : List ℕ
-nameYes = bytesOf "yes"
+nameYes = chars "yes"
 
 abbrev pub nameNo : List ℕ
-nameNo = bytesOf "no"
+nameNo = chars "no"

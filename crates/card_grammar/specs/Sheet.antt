@@ -22,6 +22,7 @@ use mathlib.Core.Bool.{Bool, true, false, _&&_, cond}
 use mathlib.Core.List.{List, [], _∷_}
 use lib.Dec.{eqb, leb, ltb}
 use lib.ListN.{getD, set}
+use Rattle.bits.specs.Bits.{one}
 use Rattle.fields.specs.Text.{field, noField, same, noNumber, numberAt}
 use Rattle.card_grammar.specs.Names.{nameSlots, nameQueue, nameBus, namePort, nameSlot, nameWord, nameReset, nameDlUp, nameFlr, nameD3hot, nameFrs, nameYes, nameNo}
 use Rattle.card_grammar.specs.declared.Reason.{Reason}
@@ -172,10 +173,6 @@ isYes k line = same (field k line) nameYes
 unfoldable pub wantsYesNo : ℕ → List ℕ → Reason
 wantsYesNo k line = cond (isYes k line) Fine (wantsWord nameNo k line)
 
-abbrev pub oneIf : Bool → ℕ
-oneIf true = 1
-oneIf false = 0
-
 -- a word, and a code after it
 unfoldable pub wantsCode : List ℕ → (k next : ℕ) → List ℕ → Reason
 wantsCode name k next line = firstOf (wantsWord name k line) (wantsNumber true 3 3 next line)
@@ -200,7 +197,7 @@ unfoldable pub putCode : Reason → (j k : ℕ) (line sheet : List ℕ) → List
 putCode why j k line sheet = put why (entryPlace (slotAt line) j) (codeAt k line) sheet
 
 unfoldable pub putFrs : Reason → (line sheet : List ℕ) → List ℕ
-putFrs why line sheet = put why (entryPlace (slotAt line) 4) (oneIf (isYes 11 line)) sheet
+putFrs why line sheet = put why (entryPlace (slotAt line) 4) (one (isYes 11 line)) sheet
 
 unfoldable pub enterSlot : (line sheet : List ℕ) → Entered
 enterSlot line sheet =

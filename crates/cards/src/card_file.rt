@@ -1,4 +1,6 @@
 // A card from its file.
+use bits::at_most;
+use bits::u64_of_usize;
 use card_grammar::Reason;
 use desk::files::close_file;
 use desk::files::complain;
@@ -7,13 +9,11 @@ use desk::files::complain_read;
 use desk::files::last_error;
 use desk::files::name_file;
 use desk::files::open_file;
-use line_text::numbers::at_most;
-use line_text::numbers::wide;
 use line_text::text::LINE;
 use line_text::text::put_named;
 use line_text::text::put_text;
 use readiness::Setup;
-use readiness::Slot;
+use readiness::blank_setup;
 use usage::outcome::Outcome;
 
 // A card from a file: whether it is one, how the reading ended, and the card.
@@ -22,26 +22,6 @@ pub struct Loaded {
     pub outcome: Outcome,
     pub setup: Setup,
     pub queue: usize,
-}
-
-fn blank_slot() -> Slot {
-    Slot {
-        reset: times::code_of(0),
-        dl_up: times::code_of(0),
-        flr: times::code_of(0),
-        d3hot: times::code_of(0),
-        sends_frs: false,
-    }
-}
-
-fn blank_setup() -> Setup {
-    let entries = [blank_slot(); 32];
-    Setup {
-        slots: 0,
-        entries: entries,
-        bus: 0,
-        port_id: 0,
-    }
 }
 
 fn no_card(outcome: Outcome) -> Loaded {
@@ -107,7 +87,7 @@ fn put_reason(line: &mut [u8], at: usize, reason: Reason) -> usize {
 fn refuse(i: usize, number: usize, reason: Reason) -> Loaded {
     let mut line = [0u8; LINE];
     name_file(i);
-    let a = put_named(&mut line, 0, b"line ", wide(number));
+    let a = put_named(&mut line, 0, b"line ", u64_of_usize(number));
     let b = put_text(&mut line, a, b": ");
     let c = put_reason(&mut line, b, reason);
     complain_line(&line, c);
@@ -167,7 +147,7 @@ fn too_long(i: usize) -> Loaded {
 }
 
 fn unread(i: usize, f: Filled) -> Loaded {
-    complain_read(i, wide(f.count), f.error);
+    complain_read(i, u64_of_usize(f.count), f.error);
     no_card(Outcome::Unusable)
 }
 

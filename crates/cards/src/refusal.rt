@@ -1,9 +1,10 @@
 // Why a card's set-up is refused: the slot, and the word, at fault.
+use bits::u64_of_u16;
+use bits::u64_of_usize;
+use bits::word_at;
 use desk::files::complain_line;
 use desk::files::name_file;
-use line_text::numbers::wide;
-use line_text::numbers::wide16;
-use line_text::numbers::word_at;
+use device::kinds::kind_of_entry;
 use line_text::text::LINE;
 use line_text::text::put_hex2;
 use line_text::text::put_hex3;
@@ -11,6 +12,7 @@ use line_text::text::put_named;
 use line_text::text::put_text;
 use readiness::Setup;
 use readiness::Slot;
+use registers::Kind;
 use times::Code;
 use trace_lines::trace_words::put_refusal;
 use usage::outcome::Outcome;
@@ -45,7 +47,7 @@ fn put_bad_code(line: &mut [u8], at: usize, name: &[u8], code: Code) -> usize {
         return at;
     }
     let a = put_text(&mut *line, at, name);
-    let b = put_hex3(&mut *line, a, wide16(times::code_number(code)));
+    let b = put_hex3(&mut *line, a, u64_of_u16(times::code_number(code)));
     put_text(line, b, b"h")
 }
 
@@ -66,7 +68,7 @@ fn put_bad_slot(line: &mut [u8], at: usize, setup: Setup) -> usize {
     let slot = bad_slot(entries);
     if slot < 32 {
         let entry = entries[slot];
-        let a = put_named(&mut *line, at, b": slot ", wide(slot));
+        let a = put_named(&mut *line, at, b": slot ", u64_of_usize(slot));
         let b = put_text(&mut *line, a, b" has");
         let c = put_bad_codes(&mut *line, b, entry);
         return put_text(line, c, b", expected A1Eh (1006632960 ns) or less");
@@ -76,13 +78,18 @@ fn put_bad_slot(line: &mut [u8], at: usize, setup: Setup) -> usize {
 
 // ---- A default word
 
+// What a slot holds; past the last entry, what a blank one does.
+fn kind_at(setup: Setup, slot: usize) -> Kind {
+    if slot < 32 {
+        let entry = setup.entries[slot];
+        return kind_of_entry(entry);
+    }
+    kind_of_entry(readiness::blank_slot())
+}
+
 // Whether a default word at an index among all slots' words is allowed.
 fn is_fine_word(setup: Setup, index: usize, word: u32) -> bool {
-    registers::default_allowed(
-        device::requests::kind_of(setup, index / 64),
-        index % 64,
-        word,
-    )
+    registers::default_allowed(kind_at(setup, index / 64), index % 64, word)
 }
 
 // The first word that isn't allowed, or as many as there are.
@@ -99,14 +106,14 @@ fn bad_word(setup: Setup, words: &[u32]) -> usize {
 
 // The bits that must be 0.
 fn zeros_of(setup: Setup, index: usize) -> u32 {
-    registers::default_must_be_zero(device::requests::kind_of(setup, index / 64), index % 64)
+    registers::default_must_be_zero(kind_at(setup, index / 64), index % 64)
 }
 
 fn put_bad_word(line: &mut [u8], at: usize, setup: Setup, words: &[u32]) -> usize {
     let index = bad_word(setup, words);
-    let a = put_named(&mut *line, at, b": slot ", wide(index / 64));
+    let a = put_named(&mut *line, at, b": slot ", u64_of_usize(index / 64));
     let b = put_text(&mut *line, a, b" word ");
-    let c = put_hex2(&mut *line, b, wide(index % 64 * 4));
+    let c = put_hex2(&mut *line, b, u64_of_usize(index % 64 * 4));
     let d = put_text(&mut *line, c, b"h has ");
     let e = put_word(&mut *line, d, word_at(words, index));
     put_expected(line, e, zeros_of(setup, index))

@@ -1,16 +1,17 @@
-// The front of a case after its first byte: how much is lent, the bus number, the port's ID and 32 entries.
+// The front of a case after its first byte: how much is lent, the bus number, the port's ID, the kind of card and 32 entries.
 ghost use Prim.Native.Nat.{_<_};
-use image::numbers::byte_at;
-use image::numbers::size;
-use image::numbers::size_of_byte;
+use bits::byte_at;
+use bits::usize_of_u8;
+use bits::usize_of_u16;
 use image::numbers::two_at;
 use image::state::is_yes;
 use image::state::is_yes_or_no;
 use readiness::Setup;
 use readiness::Slot;
+use readiness::blank_slot;
 
-// How many bytes the front has.
-pub const FRONT: usize = 298;
+// How many bytes the front has: 11, and 13 for each entry.
+pub const FRONT: usize = 427;
 
 // How much is lent: slot statuses, live words, default words and queue cells.
 pub struct Lengths {
@@ -22,22 +23,36 @@ pub struct Lengths {
 
 pub fn lengths_in(front: &[u8]) -> Lengths {
     Lengths {
-        statuses: size_of_byte(byte_at(front, 0)),
-        live: size(two_at(front, 1)),
-        defaults: size(two_at(front, 3)),
-        cells: size(two_at(front, 5)),
+        statuses: usize_of_u8(byte_at(front, 0)),
+        live: usize_of_u16(two_at(front, 1)),
+        defaults: usize_of_u16(two_at(front, 3)),
+        cells: usize_of_u16(two_at(front, 5)),
     }
 }
 
-// Every "sends FRS" is 0 or 1.
-pub fn are_good_entries(front: &[u8]) -> bool {
+// "Sends FRS" is 0 or 1; what is kept for later requests has its default: edition 1, V 0, no parent.
+fn is_good_entry(front: &[u8], at: usize) -> bool
+    requires { ⌜ at < 65536 ⌝ }
+{
+    is_yes_or_no(front, at + 8)
+        & (byte_at(front, at + 9) == 1)
+        & (two_at(front, at + 10) == 0)
+        & (byte_at(front, at + 12) == 0xFF)
+}
+
+fn are_good_entries(front: &[u8]) -> bool {
     let mut i: usize = 0;
     let mut good = true;
     while i < 32 {
-        good = good & is_yes_or_no(front, 18 + 9 * i);
+        good = good & is_good_entry(front, 11 + 13 * i);
         i += 1;
     }
     good
+}
+
+// At most 32 statuses are lent, the card is no conventional one (its byte is kept for a later request), and the entries are good.
+pub fn is_good_front(front: &[u8]) -> bool {
+    (byte_at(front, 0) <= 32) & (byte_at(front, 10) == 0) & are_good_entries(front)
 }
 
 fn entry_in(front: &[u8], at: usize) -> Slot
@@ -52,21 +67,11 @@ fn entry_in(front: &[u8], at: usize) -> Slot
     }
 }
 
-fn no_entries() -> [Slot; 32] {
-    [Slot {
-        reset: times::code_of(0),
-        dl_up: times::code_of(0),
-        flr: times::code_of(0),
-        d3hot: times::code_of(0),
-        sends_frs: false,
-    }; 32]
-}
-
 fn entries_in(front: &[u8]) -> [Slot; 32] {
-    let mut entries = no_entries();
+    let mut entries = [blank_slot(); 32];
     let mut i: usize = 0;
     while i < 32 {
-        let entry = entry_in(front, 10 + 9 * i);
+        let entry = entry_in(front, 11 + 13 * i);
         entries[i] = entry;
         i += 1;
     }
@@ -75,7 +80,7 @@ fn entries_in(front: &[u8]) -> [Slot; 32] {
 
 pub fn setup_in(slots: u8, front: &[u8]) -> Setup {
     Setup {
-        slots: size_of_byte(slots),
+        slots: usize_of_u8(slots),
         entries: entries_in(front),
         bus: byte_at(front, 7),
         port_id: two_at(front, 8),

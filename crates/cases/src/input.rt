@@ -1,5 +1,5 @@
 // Bytes and words from standard input.
-use image::numbers::byte_at;
+use bits::byte_at;
 use image::numbers::words_from;
 
 pub enum Byte {
@@ -28,8 +28,8 @@ pub fn next_byte() -> Byte {
     }
 }
 
-// The next byte where one must stand, and 255 at the end of the input: no operation has that number.
-pub fn operation_byte() -> u8 {
+// The next byte where one must stand, and 255 at the end of the input: no operation has that number, and no message that length.
+pub fn byte_or_255() -> u8 {
     let next = next_byte();
     match next {
         Byte::End => 255,

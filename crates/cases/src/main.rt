@@ -1,4 +1,5 @@
-// Reads a stream of cases from standard input, drives set-up and feed, and writes what they gave and the state afterwards. A
+// Reads a stream of cases, version 2, from standard input, drives set-up, feed and the reader and writer of messages, and writes
+// what they gave and the state afterwards. What the stream keeps for later requests has its default, or the stream is malformed. A
 // malformed stream ends it with `bad case` on standard error; what was written before stands.
 mod input; // bytes and words from standard input
 mod output; // bytes and words to standard output
@@ -6,13 +7,14 @@ mod front; // what a case lends: lengths and the set-up
 mod turn; // what goes from one operation to the next
 mod bench_calls; // the two calls that the cases drive
 mod operations; // set-up, feed, and lending a state
+mod message_operations; // a message written, and one read
 mod running; // one case
 
 use input::Byte;
 use input::next_byte;
 use running::run_case;
 
-const VERSION: u8 = 1;
+const VERSION: u8 = 2;
 
 // After a case, or at the end of the stream: whether the stream goes on, and whether all was good.
 pub struct Progress {

@@ -1,18 +1,20 @@
-// The operations of a case, and what each writes.
-ghost use Prim.Native.Nat.{_≤_};
+// The operations on what is lent, and what each writes.
 use crate::bench_calls::feed_lent;
 use crate::bench_calls::set_up_lent;
 use crate::input::fill;
 use crate::input::read_words;
 use crate::output::write_first;
+use crate::output::write_number;
 use crate::output::write_words;
 use crate::turn::Turn;
 use crate::turn::ended;
 use crate::turn::turned;
+use bits::at_most;
+use bits::u64_of_usize;
+use bits::usize_of_u16;
 use feed::Fed;
 use image::numbers::put;
 use image::numbers::put_four;
-use image::numbers::size;
 use image::numbers::two_at;
 use image::state::image_size;
 use image::state::is_good_image;
@@ -42,11 +44,6 @@ fn after_call(
     turned(true, port, statuses)
 }
 
-fn write_number(number: u8) {
-    let one = [number; 1];
-    write_first(&one, 1);
-}
-
 // 01
 pub fn set_up_operation(
     setup: Setup,
@@ -74,8 +71,8 @@ pub struct Call {
 fn read_call(input: &mut [u8]) -> Call {
     let mut head = [0u8; 4];
     let whole = fill(&mut head, 4);
-    let room = size(two_at(&head, 0));
-    let n = size(two_at(&head, 2));
+    let room = usize_of_u16(two_at(&head, 0));
+    let n = usize_of_u16(two_at(&head, 2));
     Call {
         good: whole & (room <= 4096) & fill(input, n),
         room: room,
@@ -83,18 +80,12 @@ fn read_call(input: &mut [u8]) -> Call {
     }
 }
 
-fn at_most(n: usize, most: usize) -> usize
-    ensures { λ r. ⌜ r ≤ most ⌝ }
-{
-    if n <= most { n } else { most }
-}
-
 // The number and the two counts, then the whole room.
 fn write_answers(fed: Fed, answers: &[u8], room: usize) {
     let mut bytes = [0u8; 9];
     put(&mut bytes, 0, fed.number);
-    put_four(&mut bytes, 1, fed.consumed as u64);
-    put_four(&mut bytes, 5, fed.written as u64);
+    put_four(&mut bytes, 1, u64_of_usize(fed.consumed));
+    put_four(&mut bytes, 5, u64_of_usize(fed.written));
     write_first(&bytes, 9);
     write_first(answers, room);
 }
@@ -173,7 +164,7 @@ fn read_state(lent: usize, image: &mut [u8], live: &mut [u32], cells: &mut [u32]
 
 // 03: a state replaces what is lent.
 pub fn lend_operation(lent: usize, live: &mut [u32], cells: &mut [u32]) -> Turn {
-    let mut image = [0u8; 614];
+    let mut image = [0u8; 910];
     let good = read_state(lent, &mut image, live, cells);
     turned(good, port_in(&image), statuses_in(&image))
 }

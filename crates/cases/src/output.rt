@@ -11,6 +11,11 @@ pub fn write_first(bytes: &[u8], n: usize) {
     }
 }
 
+pub fn write_number(number: u8) {
+    let one = [number; 1];
+    write_first(&one, 1);
+}
+
 // Writes words, at most 4,200.
 pub fn write_words(words: &[u32]) {
     let mut bytes = [0u8; 16800];

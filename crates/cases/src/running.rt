@@ -1,26 +1,28 @@
 // One case: what it lends, then its operations until 00.
 use crate::front::FRONT;
 use crate::front::Lengths;
-use crate::front::are_good_entries;
+use crate::front::is_good_front;
 use crate::front::lengths_in;
 use crate::front::setup_in;
+use crate::input::byte_or_255;
 use crate::input::fill;
-use crate::input::operation_byte;
 use crate::input::read_words;
+use crate::message_operations::read_operation;
+use crate::message_operations::write_operation;
 use crate::operations::feed_operation;
 use crate::operations::lend_operation;
 use crate::operations::set_up_operation;
 use crate::turn::Turn;
 use crate::turn::ended;
 use crate::turn::turned;
-use image::state::port_in;
-use image::state::statuses_in;
+use crate::turn::went_by;
 use readiness::Setup;
+use readiness::all_down;
+use records::blank_port;
 
 // A case starts with everything at 0, statuses Down.
 fn first_turn() -> Turn {
-    let zeros = [0u8; 614];
-    turned(true, port_in(&zeros), statuses_in(&zeros))
+    turned(true, blank_port(), all_down())
 }
 
 // One operation; 00 ends the case, and any other number is a bad one.
@@ -37,6 +39,8 @@ fn operate(
         1 => set_up_operation(setup, lent, turn, live, defaults, cells),
         2 => feed_operation(setup, lent, turn, live, defaults, cells),
         3 => lend_operation(lent, live, cells),
+        0x0D => went_by(turn, write_operation()),
+        0x0E => went_by(turn, read_operation()),
         _ => ended(turn, operation == 0),
     }
 }
@@ -52,7 +56,7 @@ fn run_operations(
     let mut turn = first_turn();
     let mut turns = u64::MAX;
     while turns > 0 && turn.goes_on {
-        let operation = operation_byte();
+        let operation = byte_or_255();
         turn = operate(
             operation,
             setup,
@@ -113,13 +117,10 @@ pub fn run_case(slots: u8) -> bool {
     if !fill(&mut front, FRONT) {
         return false;
     }
-    if !are_good_entries(&front) {
+    if !is_good_front(&front) {
         return false;
     }
     let lengths = lengths_in(&front);
-    if lengths.statuses > 32 {
-        return false;
-    }
     if !read_first(&mut defaults, lengths.defaults) {
         return false;
     }

@@ -20,6 +20,13 @@ pub fn turned(good: bool, port: Port, statuses: [Status; 32]) -> Turn {
     }
 }
 
+// After an operation that leaves what is lent.
+pub fn went_by(turn: Turn, good: bool) -> Turn {
+    let port = turn.port;
+    let statuses = turn.statuses;
+    turned(good, port, statuses)
+}
+
 // The case's end, or a bad case.
 pub fn ended(turn: Turn, good: bool) -> Turn {
     let port = turn.port;

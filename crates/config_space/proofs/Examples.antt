@@ -8,8 +8,8 @@ use Rattle.bits.specs.Bits.{bit, number, word}
 use Rattle.bits.specs.Lists.{listed, replaced}
 use Rattle.registers.specs.declared.Kind.the-variants.{Endpoint}
 use Rattle.registers.specs.Rows.{endpointRow, rowOf}
-use Rattle.registers.specs.Words.{writeBit, writeWord, resetBit, linkReset, flrReset}
-use Rattle.config_space.specs.Functions.{writeSlotWord, resetWhere, linkResetSlot, flrResetSlot, linkResetAll, coldReset}
+use Rattle.registers.specs.Words.{resetBit, linkReset, flrReset}
+use Rattle.config_space.specs.Functions.{resetWhere, linkResetSlot, flrResetSlot, linkResetAll, coldReset}
 
 -- an FLR of slot 1 resets its cache line and not that of slot 0
 pub flr-slot-own : getD (flrResetSlot Endpoint 1 (replicate 128 0xFFFFFFFF) (replicate 128 0)) (64 + 3) 0 ≡ 0xFFFFFF00
@@ -21,16 +21,16 @@ unfolding flrResetSlot resetWhere replaced listed flrReset resetBit word number 
 flr-slot-other = refl
 
 -- link down resets both
-pub link-down-first : getD (linkResetAll Endpoint (replicate 128 0xFFFFFFFF) (replicate 128 0)) 3 0 ≡ 0xFFFFFF00
+pub link-down-first : getD (linkResetAll (λ slot. Endpoint) (replicate 128 0xFFFFFFFF) (replicate 128 0)) 3 0 ≡ 0xFFFFFF00
 unfolding linkResetAll resetWhere replaced listed linkReset resetBit word number rowOf endpointRow bit
 link-down-first = refl
 
-pub link-down-second : getD (linkResetAll Endpoint (replicate 128 0xFFFFFFFF) (replicate 128 0)) (64 + 3) 0 ≡ 0xFFFFFF00
+pub link-down-second : getD (linkResetAll (λ slot. Endpoint) (replicate 128 0xFFFFFFFF) (replicate 128 0)) (64 + 3) 0 ≡ 0xFFFFFF00
 unfolding linkResetAll resetWhere replaced listed linkReset resetBit word number rowOf endpointRow bit
 link-down-second = refl
 
 -- words that only one of the lists has stay, and none are added
-pub link-down-short : linkResetAll Endpoint (7 ∷ 7 ∷ 7 ∷ []) (0 ∷ 0 ∷ []) ≡ 7 ∷ 0 ∷ 7 ∷ []
+pub link-down-short : linkResetAll (λ slot. Endpoint) (7 ∷ 7 ∷ 7 ∷ []) (0 ∷ 0 ∷ []) ≡ 7 ∷ 0 ∷ 7 ∷ []
 unfolding linkResetAll resetWhere replaced listed linkReset resetBit word number rowOf endpointRow bit
 link-down-short = refl
 
@@ -38,15 +38,6 @@ link-down-short = refl
 pub link-down-no-slot : linkResetSlot Endpoint 1 (7 ∷ 7 ∷ []) (0 ∷ 0 ∷ []) ≡ 7 ∷ 7 ∷ []
 unfolding linkResetSlot resetWhere replaced listed
 link-down-no-slot = refl
-
--- a write to the cache line of slot 1, and to a word that isn't lent
-pub write-second-slot : getD (writeSlotWord Endpoint 1 3 (replicate 128 0) 0xFFFFFFFF 15) (64 + 3) 0 ≡ 0x000000FF
-unfolding writeSlotWord writeWord writeBit word number rowOf endpointRow bit
-write-second-slot = refl
-
-pub write-no-word : writeSlotWord Endpoint 1 3 (7 ∷ 7 ∷ []) 0xFFFFFFFF 15 ≡ 7 ∷ 7 ∷ []
-unfolding writeSlotWord
-write-no-word = refl
 
 -- PME_Status does not survive a cold reset
 pub pme-not-cold-reset : coldReset (0x0000810B ∷ []) (0x00000008 ∷ []) ≡ 0x00000008 ∷ []

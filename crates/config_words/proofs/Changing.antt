@@ -10,15 +10,17 @@ use lib.ListN.{length, getD, set}
 use borrow.Author.Tests.{ne-eqb, le-ltb, lt-leb}
 use Rattle.bits.specs.Bits.{bit, number, word}
 use Rattle.bits.proofs.Bits.{bit-none, is-arg, is-the}
-use Rattle.bits.proofs.Tests.{all, all-at}
+use Rattle.bits.proofs.Tests.{all, all-at, is-false, is-true}
 use Rattle.registers.specs.declared.Kind.{Kind}
 use Rattle.registers.specs.Rows.{rowOf, endpointRow}
-use Rattle.registers.specs.Words.{resetBit, linkReset, flrReset, linkMask, flrMask, withDefaults}
+use Rattle.registers.specs.Words.{pmcsr, deviceControl, resetBit, linkReset, flrReset, linkMask, flrMask, withDefaults}
 use Rattle.registers.proofs.Rules.{every-kind, link-by-mask, flr-by-mask}
 use Rattle.config_words.specs.declared.ResetMasks.{ResetMasks}
+use Rattle.config_words.specs.declared.LinkMasks.{LinkMasks}
 use Rattle.config_space.specs.Functions.{resetWhere}
-use Rattle.config_words.specs.Resetting.{changing, changingBetween, maskIn, byMask, linkMasks, flrMasks}
-use Rattle.config_words.proofs.Spans.{not-both, none-of, skip, next, two-resets, only-of, same-reset}
+use Rattle.config_space.proofs.Slots.{same-reset}
+use Rattle.config_words.specs.Resetting.{changing, changingBetween, maskIn, byMask, linkMasks, flrMasks, linkMasksOf}
+use Rattle.config_words.proofs.Spans.{not-both, none-of, skip, next, two-resets, only-of}
 
 -- ---- which words
 
@@ -26,23 +28,15 @@ use Rattle.config_words.proofs.Spans.{not-both, none-of, skip, next, tw
 abbrev pub noneIn : (x y : ℕ) → Bool
 noneIn x y = all 64 (λ i. ltb i x || leb y i || not (changing i))
 
-is-off : (b : Bool) → T (not b) → b ≡ false
-is-off true t = absurd t
-is-off false t = refl
-
-is-on : (b : Bool) → T b → b ≡ true
-is-on true t = refl
-is-on false t = absurd t
-
 gap : (slot x y : ℕ) → T (noneIn x y) → y ≤ 64 → (n : ℕ) → slot * 64 + x ≤ n → n < slot * 64 + y → changing (n % 64) ≡ false
 gap slot x y t h n p q =
     let i : ℕ = n % 64 in
     let low : x ≤ i = omega arith in
     let high : i < y = omega arith in
     let below : i < 64 = omega arith in
-    is-off (changing i) (rw (le-ltb i x low, lt-leb y i high) at (all-at 64 (λ i. ltb i x || leb y i || not (changing i)) t i below))
+    is-false (changing i) (rw (le-ltb i x low, lt-leb y i high) at (all-at 64 (λ i. ltb i x || leb y i || not (changing i)) t i below))
 
-module _ (reset : ℕ → ℕ → ℕ → ℕ) (live defaults : List ℕ) (slot : ℕ)
+module _ (reset : ℕ → ℕ → ℕ → ℕ → ℕ) (live defaults : List ℕ) (slot : ℕ)
     (lives : slot * 64 + 64 ≤ length live) (given : slot * 64 + 64 ≤ length defaults) where
   -- no word is reset yet
   pub no-word : (a x : ℕ) → slot * 64 + x ≤ a → live ≡ resetWhere (changingBetween a (slot * 64 + x)) reset live defaults
@@ -51,15 +45,16 @@ module _ (reset : ℕ → ℕ → ℕ → ℕ) (live defaults : List ℕ) (slot 
   -- after the words of a slot up to x, the reset of the next one, word i
   pub next-word : (a x i : ℕ) (now : List ℕ) → now ≡ resetWhere (changingBetween a (slot * 64 + x)) reset live defaults
       → a ≤ slot * 64 + i → x ≤ i → i < 64 → T (noneIn x i) → T (changing i)
-      → set now (slot * 64 + i) (reset i (getD now (slot * 64 + i) 0) (getD defaults (slot * 64 + i) 0))
+      → set now (slot * 64 + i) (reset slot i (getD now (slot * 64 + i) 0) (getD defaults (slot * 64 + i) 0))
       ≡ resetWhere (changingBetween a (slot * 64 + (i + 1))) reset live defaults
   next-word a x i now e h k l none on =
       let n : ℕ = slot * 64 + i in
+      let o : slot ≡ n / 64 = omega arith in
       let m : i ≡ n % 64 = omega arith in
       let end : n + 1 ≡ slot * 64 + (i + 1) = omega arith in
       next reset live defaults (λ n. changing (n % 64)) a (slot * 64 + x) n now e (omega arith) (omega arith)
       (gap slot x i none (omega arith))
-      (ap changing (sym m) ∙ is-on (changing i) on) (omega arith) (omega arith) i m
+      (ap changing (sym m) ∙ is-true (changing i) on) (omega arith) (omega arith) slot i o m
       ∙ ap (λ (b : ℕ). resetWhere (changingBetween a b) reset live defaults) end
 
   -- the words from x up to y need no reset
@@ -69,13 +64,10 @@ module _ (reset : ℕ → ℕ → ℕ → ℕ) (live defaults : List ℕ) (slot 
   last-words a x y h k none = skip reset live defaults (λ n. changing (n % 64)) a (slot * 64 + x) (slot * 64 + y) (omega arith) (gap slot x y none k)
 
 -- two spans, one after the other
-pub two-changing : (reset : ℕ → ℕ → ℕ → ℕ) (live defaults : List ℕ) (a b c : ℕ) → a ≤ b → b ≤ c
+pub two-changing : (reset : ℕ → ℕ → ℕ → ℕ → ℕ) (live defaults : List ℕ) (a b c : ℕ) → a ≤ b → b ≤ c
     → resetWhere (changingBetween b c) reset (resetWhere (changingBetween a b) reset live defaults) defaults
     ≡ resetWhere (changingBetween a c) reset live defaults
 two-changing reset live defaults a b c h k = two-resets reset live defaults (λ n. changing (n % 64)) a b c h k
-
-pub none-changing : (reset : ℕ → ℕ → ℕ → ℕ) (live defaults : List ℕ) (a : ℕ) → live ≡ resetWhere (changingBetween a a) reset live defaults
-none-changing reset live defaults a = none-of reset live defaults (λ n. changing (n % 64)) a a (omega arith)
 
 -- ---- the other words stay
 
@@ -86,7 +78,7 @@ no-mask : (t : ResetMasks) (i : ℕ) → changing i ≡ false → maskIn t i ≡
 unfolding maskIn
 no-mask t i off =
     let at : (k : ℕ) → changing k ≡ true → eqb i k ≡ false = λ k. not-at i k off in
-    rw (at 1 refl, at 3 refl, at 4 refl, at 15 refl, at 17 refl, at 20 refl, at 21 refl, at 22 refl, at 30 refl, at 32 refl) refl
+    rw (at 1 refl, at 3 refl, at 4 refl, at 15 refl, at pmcsr refl, at 20 refl, at 21 refl, at 22 refl, at deviceControl refl, at 32 refl) refl
 
 none-taken : (live default : ℕ) → live < 2 ^ 32 → withDefaults 0 live default ≡ live
 unfolding withDefaults resetBit
@@ -116,14 +108,18 @@ unfolding flrRight maskIn flrMask word number rowOf endpointRow bit
 flr-tested = every-kind (λ kind. all 64 (flrRight kind)) tt
 
 module _ (kind : Kind) (chosen : ℕ → Bool) (live defaults : List ℕ) where
-  pub link-by-masks : resetWhere chosen (byMask (linkMasks kind)) live defaults ≡ resetWhere chosen (linkReset kind) live defaults
+  pub link-by-masks : resetWhere chosen (byMask (linkMasks kind)) live defaults ≡ resetWhere chosen (λ s. linkReset kind) live defaults
   unfolding linkRight
   link-by-masks =
       same-reset chosen _ _ live defaults
-      (λ i x d h. ap (λ (m : ℕ). withDefaults m x d) (eqb→eq _ _ (all-at 64 (linkRight kind) (link-tested kind) i h)) ∙ link-by-mask kind i x d)
+      (λ n x d e. ap (λ (m : ℕ). withDefaults m x d) (eqb→eq _ _ (all-at 64 (linkRight kind) (link-tested kind) (n % 64) (omega arith))) ∙ link-by-mask kind (n % 64) x d)
 
-  pub flr-by-masks : resetWhere chosen (byMask (flrMasks kind)) live defaults ≡ resetWhere chosen (flrReset kind) live defaults
+  pub flr-by-masks : resetWhere chosen (byMask (flrMasks kind)) live defaults ≡ resetWhere chosen (λ s. flrReset kind) live defaults
   unfolding flrRight
   flr-by-masks =
       same-reset chosen _ _ live defaults
-      (λ i x d h. ap (λ (m : ℕ). withDefaults m x d) (eqb→eq _ _ (all-at 64 (flrRight kind) (flr-tested kind) i h)) ∙ flr-by-mask kind i x d)
+      (λ n x d e. ap (λ (m : ℕ). withDefaults m x d) (eqb→eq _ _ (all-at 64 (flrRight kind) (flr-tested kind) (n % 64) (omega arith))) ∙ flr-by-mask kind (n % 64) x d)
+
+-- masks that are those of a kind are those of the kind that they name
+pub own-masks : (m : LinkMasks) (kind : Kind) → m ≡ linkMasksOf kind → m ≡ linkMasksOf (m .kind)
+own-masks m kind e = e ∙ ap (λ (l : LinkMasks). linkMasksOf (l .kind)) (sym e)

@@ -11,7 +11,7 @@ use lib.ListN.{length, getD, set}
 use borrow.Author.Tests.{leb-true, ltb-true, ltb-false, eqb-true, le-leb, lt-ltb, eq-eqb}
 use Rattle.bits.proofs.Lists.{getD-replaced, is-replaced, replaced-none, replaced-other, replaced-ext, replaced-more}
 use Rattle.bits.proofs.Tests.{same-test, both-left, both-right, both, untrue}
-use Rattle.config_space.proofs.Slots.{length-reset}
+use Rattle.config_space.proofs.Slots.{length-reset, same-words, split, after}
 use Rattle.config_space.specs.Functions.{inSlot, inAnySlot, resetWhere}
 use Rattle.config_words.specs.Resetting.{between}
 
@@ -43,7 +43,7 @@ same-span a b d i a' b' d' f g =
     (λ e. let w = f (is-within a b d i e) in make-within a' b' d' i (w .from) (w .to) (w .has))
     (λ e. let w = g (is-within a' b' d' i e) in make-within a b d i (w .from) (w .to) (w .has))
 
-module _ (reset : ℕ → ℕ → ℕ → ℕ) (live defaults : List ℕ) where
+module _ (reset : ℕ → ℕ → ℕ → ℕ → ℕ) (live defaults : List ℕ) where
   -- no word is reset yet
   pub none-yet : (a : ℕ) → live ≡ resetWhere (between a a) reset live defaults
   unfolding resetWhere
@@ -56,7 +56,7 @@ module _ (reset : ℕ → ℕ → ℕ → ℕ) (live defaults : List ℕ) where
 
   -- one word more
   pub one-more : (a n : ℕ) → a ≤ n → n < length live → n < length defaults
-      → set (resetWhere (between a n) reset live defaults) n (reset (n % 64) (getD live n 0) (getD defaults n 0)) ≡ resetWhere (between a (n + 1)) reset live defaults
+      → set (resetWhere (between a n) reset live defaults) n (reset (n / 64) (n % 64) (getD live n 0) (getD defaults n 0)) ≡ resetWhere (between a (n + 1)) reset live defaults
   unfolding resetWhere
   one-more a n h l d =
       replaced-more _ _ _ live n l (make-within a (n + 1) (length defaults) n h (omega arith) d)
@@ -75,11 +75,8 @@ module _ (reset : ℕ → ℕ → ℕ → ℕ) (live defaults : List ℕ) where
 
   -- all the words of the lists
   pub every-word : resetWhere (between 0 (length live)) reset live defaults ≡ resetWhere inAnySlot reset live defaults
-  unfolding resetWhere
   every-word =
-      replaced-ext _ _ _ _ live
-      (λ i m. ap (λ (t : Bool). t && ltb i (length defaults)) (both (leb 0 i) (ltb i (length live)) (le-leb 0 i (omega arith)) (lt-ltb i (length live) m)))
-      (λ i m t. refl)
+      same-words _ _ reset live defaults (λ i m. both (leb 0 i) (ltb i (length live)) (le-leb 0 i (omega arith)) (lt-ltb i (length live) m))
 
   -- the words of a slot
   pub slot-words : (slot : ℕ) → resetWhere (between (min (slot * 64 + 0) (length live)) (min (slot * 64 + 64) (length live))) reset live defaults ≡ resetWhere (inSlot slot) reset live defaults
@@ -139,13 +136,6 @@ one-apart a n i ne =
     (λ e. let w = is-between a (n + 1) i e in make-between a n i (w .from) (lt-of-le-ne (omega arith) ne))
     (λ e. let w = is-between a n i e in make-between a (n + 1) i (w .from) (omega arith))
 
--- a test that holds where one of two holds, and nowhere else
-split : (x y z : Bool) → (x ≡ true → z ≡ true) → (y ≡ true → z ≡ true) → (z ≡ true → x ≡ false → y ≡ true) → (x || y) ≡ z
-split true y z f g h = sym (f refl)
-split false true z f g h = sym (g refl)
-split false false true f g h = h refl refl
-split false false false f g h = refl
-
 -- two spans, one after the other
 two-spans : (q : ℕ → Bool) (a b c : ℕ) → a ≤ b → b ≤ c → (i : ℕ) → (someOf q a b i || someOf q b c i) ≡ someOf q a c i
 two-spans q a b c h k i =
@@ -163,13 +153,6 @@ two-spans q a b c h k i =
     ] in
     by (ltb i b) refl)
 
--- two resets one after the other at a word, of which only one chooses it
-after-word : (p q has : Bool) (reset : ℕ → ℕ) (live : ℕ) → (p ≡ true → q ≡ false)
-    → cond (q && has) (reset (cond (p && has) (reset live) live)) (cond (p && has) (reset live) live) ≡ cond ((p || q) && has) (reset live) live
-after-word true true has reset live h = absurd (not-both true refl (h refl))
-after-word true false has reset live h = refl
-after-word false q has reset live h = refl
-
 -- a word that the reset leaves need not be chosen
 left-word : (chosen changes has : Bool) (new live : ℕ) → (changes ≡ false → new ≡ live) → cond ((chosen && changes) && has) new live ≡ cond (chosen && has) new live
 left-word true true has new live h = refl
@@ -177,7 +160,7 @@ left-word true false true new live h = sym (h refl)
 left-word true false false new live h = refl
 left-word false changes has new live h = refl
 
-module _ (reset : ℕ → ℕ → ℕ → ℕ) (live defaults : List ℕ) where
+module _ (reset : ℕ → ℕ → ℕ → ℕ → ℕ) (live defaults : List ℕ) where
   pub none-of : (q : ℕ → Bool) (a b : ℕ) → b ≤ a → live ≡ resetWhere (someOf q a b) reset live defaults
   unfolding resetWhere
   none-of q a b h =
@@ -196,7 +179,7 @@ module _ (reset : ℕ → ℕ → ℕ → ℕ) (live defaults : List ℕ) where
       (λ e. let w = is-between a n n (both-left (between a n n) (q n) (both-left (someOf q a n n) (ltb n (length defaults)) e)) in omega arith))
 
   one-of : (q : ℕ → Bool) (a n : ℕ) → a ≤ n → n < length live → n < length defaults → q n ≡ true
-      → set (resetWhere (someOf q a n) reset live defaults) n (reset (n % 64) (getD live n 0) (getD defaults n 0)) ≡ resetWhere (someOf q a (n + 1)) reset live defaults
+      → set (resetWhere (someOf q a n) reset live defaults) n (reset (n / 64) (n % 64) (getD live n 0) (getD defaults n 0)) ≡ resetWhere (someOf q a (n + 1)) reset live defaults
   unfolding resetWhere
   one-of q a n h l d t =
       replaced-more _ _ _ live n l
@@ -205,36 +188,20 @@ module _ (reset : ℕ → ℕ → ℕ → ℕ) (live defaults : List ℕ) where
 
   -- the next word of which q holds
   pub next : (q : ℕ → Bool) (a b n : ℕ) (now : List ℕ) → now ≡ resetWhere (someOf q a b) reset live defaults
-      → a ≤ n → b ≤ n → ((i : ℕ) → b ≤ i → i < n → q i ≡ false) → q n ≡ true → n < length live → n < length defaults → (i : ℕ) → i ≡ n % 64
-      → set now n (reset i (getD now n 0) (getD defaults n 0)) ≡ resetWhere (someOf q a (n + 1)) reset live defaults
-  next q a b n now e h k none t l d i m =
+      → a ≤ n → b ≤ n → ((i : ℕ) → b ≤ i → i < n → q i ≡ false) → q n ≡ true → n < length live → n < length defaults → (slot i : ℕ) → slot ≡ n / 64 → i ≡ n % 64
+      → set now n (reset slot i (getD now n 0) (getD defaults n 0)) ≡ resetWhere (someOf q a (n + 1)) reset live defaults
+  next q a b n now e h k none t l d slot i o m =
       let s : now ≡ resetWhere (someOf q a n) reset live defaults = e ∙ skip q a b n k none in
       let same : getD now n 0 ≡ getD live n 0 = ap (λ (l : List ℕ). getD l n 0) s ∙ not-of q a n in
-      ap₂ (λ (l : List ℕ) (v : ℕ). set l n v) s (ap₂ (λ (j v : ℕ). reset j v (getD defaults n 0)) m same) ∙ one-of q a n h l d t
-
-  -- two resets one after the other that choose no word both
-  pub after : (p q r : ℕ → Bool) → ((n : ℕ) → p n ≡ true → q n ≡ false) → ((n : ℕ) → (p n || q n) ≡ r n)
-      → resetWhere q reset (resetWhere p reset live defaults) defaults ≡ resetWhere r reset live defaults
-  unfolding resetWhere
-  after p q r apart joined =
-      let first : List ℕ = resetWhere p reset live defaults in
-      let long : length first ≡ length live = length-reset reset live defaults p in
-      is-replaced (λ n. r n && ltb n (length defaults)) _ live (resetWhere q reset first defaults) (length-reset reset first defaults q ∙ long)
-      (λ n h.
-      let m : n < length first = omega arith in
-      let new : ℕ → ℕ = λ v. reset (n % 64) v (getD defaults n 0) in
-      getD-replaced _ _ first n m
-      ∙ ap (λ (v : ℕ). cond (q n && ltb n (length defaults)) (new v) v) (getD-replaced _ _ live n h)
-      ∙ after-word (p n) (q n) (ltb n (length defaults)) new (getD live n 0) (apart n)
-      ∙ ap (λ (t : Bool). cond (t && ltb n (length defaults)) (new (getD live n 0)) (getD live n 0)) (joined n))
+      ap₂ (λ (l : List ℕ) (v : ℕ). set l n v) s (ap (λ (s : ℕ). reset s i (getD now n 0) (getD defaults n 0)) o ∙ ap₂ (λ (j v : ℕ). reset (n / 64) j v (getD defaults n 0)) m same) ∙ one-of q a n h l d t
 
   -- a reset that leaves the words of which q doesn't hold
-  pub only-of : (q chosen : ℕ → Bool) → ((n : ℕ) → n < length live → q n ≡ false → reset (n % 64) (getD live n 0) (getD defaults n 0) ≡ getD live n 0)
+  pub only-of : (q chosen : ℕ → Bool) → ((n : ℕ) → n < length live → q n ≡ false → reset (n / 64) (n % 64) (getD live n 0) (getD defaults n 0) ≡ getD live n 0)
       → resetWhere (λ n. chosen n && q n) reset live defaults ≡ resetWhere chosen reset live defaults
   unfolding resetWhere
   only-of q chosen leaves =
       let some : ℕ → Bool = λ n. chosen n && q n in
-      let new : ℕ → ℕ = λ n. reset (n % 64) (getD live n 0) (getD defaults n 0) in
+      let new : ℕ → ℕ = λ n. reset (n / 64) (n % 64) (getD live n 0) (getD defaults n 0) in
       is-replaced (λ n. chosen n && ltb n (length defaults)) new live (resetWhere some reset live defaults) (length-reset reset live defaults some)
       (λ n h. getD-replaced (λ n. some n && ltb n (length defaults)) new live n h
       ∙ left-word (chosen n) (q n) (ltb n (length defaults)) (new n) (getD live n 0) (leaves n h))
@@ -242,7 +209,7 @@ module _ (reset : ℕ → ℕ → ℕ → ℕ) (live defaults : List ℕ) where
   pub two-resets : (q : ℕ → Bool) (a b c : ℕ) → a ≤ b → b ≤ c
       → resetWhere (someOf q b c) reset (resetWhere (someOf q a b) reset live defaults) defaults ≡ resetWhere (someOf q a c) reset live defaults
   two-resets q a b c h k =
-      after (someOf q a b) (someOf q b c) (someOf q a c)
+      after reset live defaults (someOf q a b) (someOf q b c) (someOf q a c)
       (λ i e. let w = is-between a b i (both-left (between a b i) (q i) e) in
       untrue (someOf q b c i) (λ f. let v = is-between b c i (both-left (between b c i) (q i) f) in omega arith))
       (two-spans q a b c h k)
@@ -257,10 +224,3 @@ module _ (reset : ℕ → ℕ → ℕ → ℕ) (live defaults : List ℕ) where
       (λ e. let w = is-between (slot * 64) (slot * 64 + 64) i e in eq-eqb (i / 64) slot (omega arith))
       (λ e. let s : i / 64 ≡ slot = eqb-true (i / 64) slot e in make-between (slot * 64) (slot * 64 + 64) i (omega arith) (omega arith))))
       (λ i m t. refl)
-
--- two resets that do the same to every word
-pub same-reset : (chosen : ℕ → Bool) (reset reset' : ℕ → ℕ → ℕ → ℕ) (live defaults : List ℕ)
-    → ((i x d : ℕ) → i < 64 → reset i x d ≡ reset' i x d) → resetWhere chosen reset live defaults ≡ resetWhere chosen reset' live defaults
-unfolding resetWhere
-same-reset chosen reset reset' live defaults same =
-    replaced-ext _ _ _ _ live (λ n m. refl) (λ n m t. same (n % 64) (getD live n 0) (getD defaults n 0) (omega arith))

@@ -1,14 +1,15 @@
-// The lent words of configuration space, 64 to a slot: a read, a write and a setting by the hardware of one word, and the resets of
-// one slot and of all slots.
+// The lent words of configuration space, 64 to a slot: the resets of a slot, of one slot after the other, and of all words.
 ghost use mathlib.Core.Path.{_≡_};
 ghost use Prim.Native.Nat.{_+_, _*_, _<_, _≤_, min};
 ghost use lib.ListN.{length, getD, set};
 ghost use Rattle.registers.specs.Rows.{masks};
 ghost use Rattle.registers.specs.Words.{withDefaults};
-ghost use Rattle.config_space.specs.Functions.{readSlotWord, writeSlotWord, hardwareSetSlotWord, resetWhere, inSlot, inAnySlot, linkResetSlot, flrResetSlot, linkResetAll, coldReset};
-ghost use Rattle.config_words.specs.Resetting.{between, maskIn, byMask, linkMasks, flrMasks, changingBetween};
+ghost use Rattle.config_space.specs.Functions.{resetWhere, inSlot, linkResetSlot, flrResetSlot, coldReset};
+ghost use Rattle.config_words.specs.Resetting.{between, maskIn, byMask, linkMasks, flrMasks, linkMasksOf, changingBetween};
+use registers::DEVICE_CONTROL;
 use registers::Kind;
 use registers::Masks;
+use registers::PMCSR;
 
 // The bits that take their defaults in a reset, of each word that software or the hardware changes; no other word has any.
 pub struct ResetMasks {
@@ -24,7 +25,13 @@ pub struct ResetMasks {
     pub link_control: u32,
 }
 
-// Those words: 04h, 0Ch, 10h, 3Ch, 44h, 50h, 54h, 58h, 78h, 80h.
+// The masks of link down, with the kind that they are of.
+pub struct LinkMasks {
+    pub kind: Kind,
+    pub masks: ResetMasks,
+}
+
+// Those words, with PMCSR at 44h and device control at 78h: 04h, 0Ch, 10h, 3Ch, 50h, 54h, 58h, 80h.
 const COMMAND: usize = 1;
 
 const CACHE_LINE: usize = 3;
@@ -33,15 +40,11 @@ const BAR0: usize = 4;
 
 const INTERRUPT_LINE: usize = 15;
 
-const PMCSR: usize = 17;
-
 const MSI_CONTROL: usize = 20;
 
 const MSI_ADDRESS: usize = 21;
 
 const MSI_DATA: usize = 22;
-
-const DEVICE_CONTROL: usize = 30;
 
 const LINK_CONTROL: usize = 32;
 
@@ -167,19 +170,6 @@ fn reset_changing(reset: ResetMasks, slot: usize, live: &mut [u32], defaults: &[
     reset_high(reset, slot, live, defaults);
 }
 
-// The same in each of the first `slots` slots.
-fn reset_changing_all(reset: ResetMasks, slots: usize, live: &mut [u32], defaults: &[u32])
-    requires { ⌜ (slots * 64 ≤ length (now live)) × (slots * 64 ≤ length (now defaults)) ⌝ }
-    ensures { λ _. ⌜ now (live .exit)
-        ≡ resetWhere (changingBetween 0 (slots * 64)) (byMask reset) (now (live .entry)) (now (defaults .entry)) ⌝ }
-{
-    let mut slot = 0;
-    while slot < slots {
-        reset_changing(reset, slot, live, defaults);
-        slot += 1;
-    }
-}
-
 // Where word i of a slot stands among `words` lent words; `words` if it isn't among them.
 fn word_index(slot: usize, i: usize, words: usize) -> usize
     ensures { λ r. ⌜ r ≡ min (slot * 64 + i) words ⌝ }
@@ -189,57 +179,6 @@ fn word_index(slot: usize, i: usize, words: usize) -> usize
     }
     let start = slot * 64;
     if i < words - start { start + i } else { words }
-}
-
-// A read of word i of a slot; 0 where the lent words don't have it.
-pub fn read_slot_word(kind: Kind, slot: usize, i: usize, live: &[u32], enables: u8) -> u32
-    ensures { λ r. ⌜ r ≡ readSlotWord kind slot i (now (live .entry)) enables ⌝ }
-{
-    let n = word_index(slot, i, live.len());
-    if n < live.len() {
-        registers::read_word(kind, i, live[n], enables)
-    } else {
-        0
-    }
-}
-
-// A write to word i of a slot; nothing where the lent words don't have it.
-pub fn write_slot_word(
-    table: &Masks,
-    kind: Kind,
-    slot: usize,
-    i: usize,
-    live: &mut [u32],
-    value: u32,
-    enables: u8,
-)
-    requires { ⌜ now table ≡ masks ⌝ }
-    ensures { λ _. ⌜ now (live .exit) ≡ writeSlotWord kind slot i (now (live .entry)) value enables ⌝ }
-{
-    let n = word_index(slot, i, live.len());
-    if live.len() <= n {
-        return;
-    }
-    live[n] = registers::write_word(table, kind, i, live[n], value, enables);
-}
-
-// The hardware sets bits in word i of a slot; nothing where the lent words don't have it.
-pub fn hardware_set_slot_word(
-    table: &Masks,
-    kind: Kind,
-    slot: usize,
-    i: usize,
-    live: &mut [u32],
-    mask: u32,
-)
-    requires { ⌜ now table ≡ masks ⌝ }
-    ensures { λ _. ⌜ now (live .exit) ≡ hardwareSetSlotWord kind slot i (now (live .entry)) mask ⌝ }
-{
-    let n = word_index(slot, i, live.len());
-    if live.len() <= n {
-        return;
-    }
-    live[n] = registers::hardware_set(table, kind, i, live[n], mask);
 }
 
 // How many slots both lists have whole.
@@ -281,16 +220,48 @@ pub fn flr_reset_slot(table: &Masks, kind: Kind, slot: usize, live: &mut [u32], 
     reset_slot(reset, slot, live, defaults);
 }
 
-// Link down, in every slot: the masks are read once.
-pub fn link_reset_all(table: &Masks, kind: Kind, live: &mut [u32], defaults: &[u32])
+// The masks of link down of a kind, to start a reset of one slot after the other.
+pub fn link_masks_of(table: &Masks, kind: Kind) -> LinkMasks
     requires { ⌜ now table ≡ masks ⌝ }
-    ensures { λ _. ⌜ now (live .exit) ≡ linkResetAll kind (now (live .entry)) (now (defaults .entry)) ⌝ }
+    ensures { λ r. ⌜ r ≡ linkMasksOf kind ⌝ }
 {
-    let reset = link_masks(table, kind);
-    let words = live.len();
-    let slots = whole_slots(words, defaults.len());
-    reset_changing_all(reset, slots, live, defaults);
-    reset_words(reset, slots * 64, words, live, defaults);
+    LinkMasks {
+        kind: kind,
+        masks: link_masks(table, kind),
+    }
+}
+
+// The masks of a kind, read only if the last ones are of another kind.
+fn next_masks(table: &Masks, last: LinkMasks, kind: Kind) -> LinkMasks
+    requires { ⌜ now table ≡ masks ⌝ }
+    requires { ⌜ last ≡ linkMasksOf (last .kind) ⌝ }
+    ensures { λ r. ⌜ r ≡ linkMasksOf kind ⌝ }
+{
+    let before = last.kind;
+    if registers::same_kind(before, kind) {
+        last
+    } else {
+        link_masks_of(table, kind)
+    }
+}
+
+// Link down, in one slot after another: the masks of the last slot's kind come in, those of this slot's kind go out.
+pub fn link_reset_next(
+    table: &Masks,
+    last: LinkMasks,
+    kind: Kind,
+    slot: usize,
+    live: &mut [u32],
+    defaults: &[u32],
+) -> LinkMasks
+    requires { ⌜ now table ≡ masks ⌝ }
+    requires { ⌜ last ≡ linkMasksOf (last .kind) ⌝ }
+    ensures { λ r. ⌜ r ≡ linkMasksOf kind ⌝ }
+    ensures { λ _. ⌜ now (live .exit) ≡ linkResetSlot kind slot (now (live .entry)) (now (defaults .entry)) ⌝ }
+{
+    let next = next_masks(table, last, kind);
+    reset_slot(next.masks, slot, live, defaults);
+    next
 }
 
 // Cold reset: the live words equal the defaults.

@@ -6,33 +6,36 @@ use mathlib.Core.Bool.{true}
 use mathlib.Core.List.{List, [], _∷_, _++_}
 use lib.ListN.{replicate, set, length, drop}
 use Rattle.bits.specs.Bits.{bit, number as numberOf, word}
+use Rattle.bits.specs.Every.{every}
 use Rattle.bits.specs.Lists.{listed, replaced}
 use Rattle.times.specs.Codes.{nanosOf, powerOf, allowed}
 use Rattle.times.specs.Moments.{sumOf, leastOf}
 use Rattle.registers.specs.Rows.{endpointTable, find, endpointRow, rowOf, readsZero, defaultMustBeZero, defaultAllowed, startsFlr}
-use Rattle.registers.specs.Words.{laneMask, held as heldBits, readWord, writeBit, writeWord, resetBit, linkReset, flrReset, hardwareSet}
+use Rattle.registers.specs.Words.{laneMask, held as heldBits, readWord, writeBit, writeWord, resetBit, linkReset, flrReset, hardwareSet, startsD3hot}
 use Rattle.config_space.specs.Functions.{resetWhere, linkResetSlot, flrResetSlot, linkResetAll, coldReset}
-use Rattle.messages.specs.Messages.{layout, subtypeOf, frsWith, reasonAllowed, readMessage}
+use Rattle.messages.specs.Messages.{layout, subtypeOf, frsWith, frsAllowed, readMessage}
 use Rattle.frs_queue.specs.Queue.{counted, placeOf, queues, drops, arrives, arriveAll, removed, registerOf}
 use Rattle.readiness.specs.declared.Slot.{Slot}
 use Rattle.readiness.specs.declared.Setup.{Setup}
-use Rattle.readiness.specs.Status.{allReady, eachFrom, readyAfterLinkUp, afterReset, afterLinkDown, afterColdReset, startedByFlr, startedByD3hot, noSlot, ready}
+use Rattle.readiness.specs.Blank.{blankDev}
+use Rattle.readiness.specs.Status.{allReadyFrom, eachFrom, readyAfterLinkUp, afterReset, afterLinkDown, afterColdReset, startedByFlr, startedByD3hot, noSlot, ready}
 use Rattle.readiness.specs.Root.{frsArrive, frsOfDrs, drsSet, drsArrives}
 use Rattle.readiness.specs.Events.{insert, insertAll, dueFrom, frsOfSlot, frsOf}
-use Rattle.readiness.specs.Settle.{happens, happenAll, tells, settles, advances}
+use Rattle.readiness.specs.Settle.{happens, tells, momentEnds, happenAll, settles, advances}
 use Rattle.trace.specs.Format.{sizeOf, known, body, whole, next, begun}
 use Rattle.trace.specs.Bench.{cutIn, cut, runs, plain}
 use Rattle.records.specs.Decode.{four, decode}
 use Rattle.records.specs.Answer.{answerBytes, answered}
-use Rattle.records.specs.State.{State, state}
+use Rattle.records.specs.State.{State, state, kindOfEntry}
 use Rattle.records.specs.Route.{readsVendorId, crsOf, pendingRoute, phaseRoute, routeOf, crsData}
-use Rattle.records.specs.Requests.{startsD3hot, afterFlr, afterD3hot, writeSeat, readEffect, writeEffect, hardwareEffect}
+use Rattle.records.specs.Requests.{afterFlr, afterD3hot, writeSeat, readEffect, writeEffect, hardwareEffect}
 use Rattle.records.specs.PortRecords.{messageDone, messageEffect, clearedDev, controlOf, controlEffect, statusBits}
-use Rattle.records.specs.CardRecords.{withClock, advanceEffect, linkUpEffect, linkDownEffect, coldResetEffect}
+use Rattle.readiness.specs.Fields.{withClock}
+use Rattle.records.specs.CardRecords.{advanceEffect, linkUpEffect, linkDownEffect, coldResetEffect}
 use Rattle.records.specs.Run.{effect, run}
 use Rattle.demand3.specs.Held.{Held, held, stateOf}
-use Rattle.demand3.specs.Refusals.{every, lengthsFit, queueFits, codesAllowed, allCodesAllowed, wordsAllowed, allDefaultsAllowed, firstFailed, setUpTests, setUpRefusal}
-use Rattle.demand3.specs.SettingUp.{freshDev, freshHeld, setsUp}
+use Rattle.demand3.specs.Refusals.{lengthsFit, queueFits, codesAllowed, allCodesAllowed, wordsAllowed, allDefaultsAllowed, firstFailed, setUpTests, setUpRefusal}
+use Rattle.demand3.specs.SettingUp.{freshHeld, setsUp}
 use Rattle.records.specs.Device.{inBytes, device}
 
 -- what the definitions give, and what 01 wants
@@ -62,7 +65,7 @@ defaults = set (set (replicate 64 0) 0 0x56781234) 0x1D 0x10000000
 
 -- lent to set-up: anything of these lengths
 abbrev pub lent : Held
-lent = held (record { dev = freshDev; carried = replicate 16 9; «carried_len» = 16; broken = true }) (ready ∷ []) (replicate 64 7) (9 ∷ [])
+lent = held (record { dev = blankDev; carried = replicate 16 9; «carried_len» = 16; broken = true }) (ready ∷ []) (replicate 64 7) (9 ∷ [])
 
 -- set-up's number
 abbrev pub number : Setup → ℕ
@@ -214,5 +217,5 @@ cases = case1 ∷ case2 ∷ case3 ∷ case4 ∷ case5 ∷ case6 ∷ case7 ∷ ca
 
 -- THE MARKED CASES, all ten
 pub marked : gots cases ≡ wants cases
-unfolding bit numberOf word listed replaced nanosOf powerOf allowed sumOf leastOf endpointTable find endpointRow rowOf readsZero defaultMustBeZero defaultAllowed startsFlr laneMask heldBits readWord writeBit writeWord resetBit linkReset flrReset hardwareSet resetWhere linkResetSlot flrResetSlot linkResetAll coldReset layout subtypeOf frsWith reasonAllowed readMessage counted placeOf queues drops arrives arriveAll removed registerOf allReady eachFrom readyAfterLinkUp afterReset afterLinkDown afterColdReset startedByFlr startedByD3hot frsArrive frsOfDrs drsSet drsArrives insert insertAll dueFrom frsOfSlot frsOf happens happenAll tells settles advances sizeOf known body whole next begun cutIn cut runs plain four decode answerBytes answered readsVendorId crsOf pendingRoute phaseRoute routeOf crsData startsD3hot afterFlr afterD3hot writeSeat readEffect writeEffect hardwareEffect messageDone messageEffect clearedDev controlOf controlEffect statusBits advanceEffect linkUpEffect linkDownEffect coldResetEffect effect run inBytes every lengthsFit queueFits codesAllowed allCodesAllowed wordsAllowed allDefaultsAllowed firstFailed setUpTests setUpRefusal freshHeld setsUp
+unfolding bit numberOf word listed replaced nanosOf powerOf allowed sumOf leastOf endpointTable find endpointRow rowOf readsZero defaultMustBeZero defaultAllowed startsFlr laneMask heldBits readWord writeBit writeWord resetBit linkReset flrReset hardwareSet resetWhere linkResetSlot flrResetSlot linkResetAll coldReset layout subtypeOf frsWith frsAllowed readMessage counted placeOf queues drops arrives arriveAll removed registerOf kindOfEntry allReadyFrom eachFrom readyAfterLinkUp afterReset afterLinkDown afterColdReset startedByFlr startedByD3hot frsArrive frsOfDrs drsSet drsArrives insert insertAll dueFrom frsOfSlot frsOf happens tells momentEnds happenAll settles advances sizeOf known body whole next begun cutIn cut runs plain four decode answerBytes answered readsVendorId crsOf pendingRoute phaseRoute routeOf crsData startsD3hot afterFlr afterD3hot writeSeat readEffect writeEffect hardwareEffect messageDone messageEffect clearedDev controlOf controlEffect statusBits advanceEffect linkUpEffect linkDownEffect coldResetEffect effect run inBytes every lengthsFit queueFits codesAllowed allCodesAllowed wordsAllowed allDefaultsAllowed firstFailed setUpTests setUpRefusal freshHeld setsUp
 marked = refl

@@ -2,7 +2,7 @@
 -- Assumes nothing.
 use Prim.Native.Nat.{ℕ, zero, suc, _*_, _≤_, _<_}
 use mathlib.Core.Path.{_≡_, refl, ap, sym, subst, _∙_}
-use mathlib.Core.Bool.{Bool, true, false, not, _&&_, _||_, true≢false}
+use mathlib.Core.Bool.{Bool, true, false, not, _&&_, _||_, true≢false, and-false}
 use mathlib.Core.List.{List}
 use native.Mathlib.Omega.{arith}
 use lib.ListN.{length}
@@ -10,25 +10,28 @@ use lib.Dec.{T, eqb, leb, ltb}
 use borrow.Author.Tests.{leb-true, le-leb, ltb-true, lt-ltb, eqb-true, eq-eqb}
 use Rattle.bits.specs.Bits.{bit, word}
 use Rattle.bits.proofs.Bits.{bit-word, bit-none, word-none}
+use Rattle.bits.specs.Every.{every}
+use Rattle.bits.proofs.Every.{every-at, every-of}
 use Rattle.bits.proofs.Tests.{all, all-at, both, both-left, both-right, untrue}
 use Rattle.times.specs.Codes.{allowed}
+use Rattle.registers.specs.declared.Kind.{Kind}
 use Rattle.registers.specs.declared.Kind.the-variants.{Endpoint}
-use Rattle.registers.specs.Rows.{defaultMustBeZero, defaultAllowed}
+use Rattle.registers.specs.Rows.{pmcsr, deviceControl, checkedWords, defaultMustBeZero, defaultAllowed}
 use Rattle.readiness.specs.declared.Slot.{Slot}
 use Rattle.readiness.specs.declared.Setup.{Setup}
 use Rattle.readiness.specs.Status.{entryOf}
 use Rattle.trace.specs.Format.{begun, next, incomplete}
 use Rattle.trace.proofs.Laws.{begun-is, incomplete-begun}
 use Rattle.trace.proofs.Refusing.{refusal-set-up, refusal-unsound, refusal-none}
-use Rattle.records.specs.State.{kindOf}
+use Rattle.records.specs.State.{slotKind}
 use Rattle.records.specs.Requests.{wordAt}
 use Rattle.records.specs.Sound.{sound, Sound}
 use Rattle.records.proofs.SoundFacts.{sound-facts, facts-sound}
 use Rattle.demand3.specs.Held.{Held, stateOf, carriedOf}
-use Rattle.demand3.specs.Refusals.{every, lengthsFit, queueFits, codesAllowed, allCodesAllowed, checkedWords, wordsAllowed, allDefaultsAllowed, setUpRefusal, soundCarried, soundHeld}
+use Rattle.demand3.specs.Refusals.{lengthsFit, queueFits, codesAllowed, allCodesAllowed, wordsAllowed, allDefaultsAllowed, setUpRefusal, soundCarried, soundHeld}
 use Rattle.demand3.specs.Feeding.{bench}
 use Rattle.demand3.specs.Claim.{refusalOf}
-use Rattle.demand3.proofs.Refusals.{every-at, Fits, fits-of, words-checked, refused-1, refused-2, refused-3, refused-4, refused-not}
+use Rattle.demand3.proofs.Refusals.{Fits, fits-of, words-checked, refused-1, refused-2, refused-3, refused-4, refused-not}
 
 -- ---- a number with its reason
 record Reason (Why : ℕ → Type 0) : Type 0 where
@@ -45,11 +48,6 @@ pub record Says (test : Bool) (fact : Type 0) : Type 0 where
 
 fails : {test : Bool} {fact : Type 0} → Says test fact → (fact → ⊥) → test ≡ false
 fails {test} s f = untrue test (λ e. f (s .holds e))
-
-pub every-of : (n : ℕ) (p : ℕ → Bool) → ((i : ℕ) → i < n → p i ≡ true) → every n p ≡ true
-unfolding every
-every-of zero p h = refl
-every-of (suc n) p h = both (every n p) (p n) (every-of n p (λ i k. h i (omega arith))) (h n (omega arith))
 
 every-says : (n : ℕ) (p : ℕ → Bool) (P : ℕ → Type 0) → ((i : ℕ) → Says (p i) (P i)) → Says (every n p) ((i : ℕ) → i < n → P i)
 every-says n p P s = record { holds = λ e i l. s i .holds (every-at n p e i l); tested = λ f. every-of n p (λ i l. s i .tested (f i l)) }
@@ -117,10 +115,10 @@ all-codes-say setup = every-says (setup .slots) (λ i. codesAllowed (entryOf set
 
 -- ---- 4: no default with bit 15 or 21 of 78h or bits 1:0 of 44h set
 pub record DefaultsFit (defaults : List ℕ) (slot : ℕ) : Type 0 where
-  pub initiateFlr : bit (wordAt defaults slot 0x1E) 15 ≡ false
-  pub transactionsPending : bit (wordAt defaults slot 0x1E) 21 ≡ false
-  pub powerState0 : bit (wordAt defaults slot 0x11) 0 ≡ false
-  pub powerState1 : bit (wordAt defaults slot 0x11) 1 ≡ false
+  pub initiateFlr : bit (wordAt defaults slot deviceControl) 15 ≡ false
+  pub transactionsPending : bit (wordAt defaults slot deviceControl) 21 ≡ false
+  pub powerState0 : bit (wordAt defaults slot pmcsr) 0 ≡ false
+  pub powerState1 : bit (wordAt defaults slot pmcsr) 1 ≡ false
 
 -- two bits of a word are 0 where the word has none of a mask of these two
 module _ (d mask i j : ℕ) where
@@ -138,11 +136,7 @@ module _ (d mask i j : ℕ) where
       off false c e = refl
 
       by : (k : ℕ) → T (others k) → (m : Bool) → bit mask k ≡ m → (x : Bool) → eqb k i ≡ x → (y : Bool) → eqb k j ≡ y → masked k ≡ false
-      by k t false e x f y g = rw e (and-no (bit d k))
-        where
-          and-no : (b : Bool) → (b && false) ≡ false
-          and-no true = refl
-          and-no false = refl
+      by k t false e x f y g = rw e (and-false (bit d k))
       by k t true e true f y g = off (bit d k) (bit mask k) (ap (bit d) (eqb-true k i f) ∙ p)
       by k t true e false f true g = off (bit d k) (bit mask k) (ap (bit d) (eqb-true k j g) ∙ q)
       by k t true e false f false g = absurd (rw (e, f, g) at t)
@@ -154,14 +148,14 @@ module _ (d mask i j : ℕ) where
       by true f = absurd (true≢false (sym e ∙ f))
       by false f = refl
 
-words-say : (defaults : List ℕ) (slot : ℕ) → Says (wordsAllowed Endpoint defaults slot (checkedWords Endpoint)) (DefaultsFit defaults slot)
+words-say : (kind : Kind) (defaults : List ℕ) (slot : ℕ) → Says (wordsAllowed kind defaults slot (checkedWords kind)) (DefaultsFit defaults slot)
 unfolding defaultAllowed defaultMustBeZero bit
-words-say defaults slot =
-    let p = wordAt defaults slot 0x11 in
-    let d = wordAt defaults slot 0x1E in
-    let a = defaultAllowed Endpoint 0x11 p in
-    let b = defaultAllowed Endpoint 0x1E d in
-    let c = words-checked Endpoint defaults slot in
+words-say Endpoint defaults slot =
+    let p = wordAt defaults slot pmcsr in
+    let d = wordAt defaults slot deviceControl in
+    let a = defaultAllowed Endpoint pmcsr p in
+    let b = defaultAllowed Endpoint deviceControl d in
+    let c = words-checked Endpoint defaults slot (checkedWords Endpoint) refl in
     record {
       holds = λ e.
           let t : (a && (b && true)) ≡ true = sym c ∙ e in
@@ -185,7 +179,7 @@ AllDefaultsFit setup defaults = (i : ℕ) → i < setup .slots → DefaultsFit d
 pub all-defaults-say : (setup : Setup) (defaults : List ℕ) → Says (allDefaultsAllowed setup defaults) (AllDefaultsFit setup defaults)
 unfolding allDefaultsAllowed
 all-defaults-say setup defaults =
-    every-says (setup .slots) (λ i. wordsAllowed (kindOf setup i) defaults i (checkedWords (kindOf setup i))) (DefaultsFit defaults) (λ i. words-say defaults i)
+    every-says (setup .slots) (λ i. wordsAllowed (slotKind setup i) defaults i (checkedWords (slotKind setup i))) (DefaultsFit defaults) (λ i. words-say (slotKind setup i) defaults i)
 
 -- ---- 5: the port and the statuses are sound, and the carried bytes, at most 16, are the start of one incomplete record, or none
 pub record HeldSound (setup : Setup) (h : Held) : Type 0 where

@@ -10,6 +10,8 @@ use lib.ListN.{length, replicate, length-replicate}
 use borrow.Author.Tests.{lt-ltb}
 use Rattle.readiness.specs.declared.Status.{Status}
 use Rattle.readiness.specs.declared.Setup.{Setup}
+use Rattle.readiness.specs.declared.Dev.{Dev}
+use Rattle.readiness.specs.Blank.{blankDev}
 use Rattle.readiness.specs.Status.{down, noControl, eachFrom, statusAfterReset, stoppedByReset}
 use Rattle.trace.specs.Format.{begun}
 use Rattle.trace.proofs.Refusing.{refusal-none}
@@ -26,11 +28,11 @@ use Rattle.demand3.proofs.SettingUp.{set-up-no, set-up-yes}
 use Rattle.demand3.proofs.Numbers.{set-up-facts}
 
 -- ---- every slot Down
-each-down : (setup : Setup) (k n : ℕ) (l : List Status) → k + length l ≤ n → eachFrom k n (statusAfterReset setup) l ≡ replicate (length l) down
+each-down : (setup : Setup) (dev : Dev) (k n : ℕ) (l : List Status) → k + length l ≤ n → eachFrom k n (statusAfterReset setup dev) l ≡ replicate (length l) down
 unfolding eachFrom
-each-down setup k n [] h = refl
-each-down setup k n (s ∷ l) h =
-    ap₂ {C = List Status} (λ (b : Bool) (r : List Status). cond b down s ∷ r) (lt-ltb k n (omega arith)) (each-down setup (suc k) n l (omega arith))
+each-down setup dev k n [] h = refl
+each-down setup dev k n (s ∷ l) h =
+    ap₂ {C = List Status} (λ (b : Bool) (r : List Status). cond b down s ∷ r) (lt-ltb k n (omega arith)) (each-down setup dev (suc k) n l (omega arith))
 
 down-at : (n i : ℕ) → i < n → statusAt (replicate n down) i ≡ down
 down-at zero i h = absurd (omega arith)
@@ -69,10 +71,10 @@ module _ (setup : Setup) (defaults : List ℕ) (h : Held) where
   set-up-refused n e = sym (set-up-no setup defaults h (suc n) (sym e) (λ z. omega arith))
 
   module _ (e : setUpRefusal setup defaults h ≡ 0) where
-    slots-down : stoppedByReset setup (h .statuses) ≡ replicate (setup .slots) down
+    slots-down : stoppedByReset setup blankDev (h .statuses) ≡ replicate (setup .slots) down
     slots-down =
         let f = set-up-facts setup defaults h e .lengths in
-        each-down setup 0 (setup .slots) (h .statuses) (omega (arith, f .perSlot)) ∙ ap (λ (n : ℕ). replicate n down) (f .perSlot)
+        each-down setup blankDev 0 (setup .slots) (h .statuses) (omega (arith, f .perSlot)) ∙ ap (λ (n : ℕ). replicate n down) (f .perSlot)
 
     -- A SET-UP THAT ISN'T REFUSED leaves all that is lent as 01 says
     fresh-left : Fresh setup defaults (length (h .cells)) (freshHeld setup defaults h)

@@ -1,55 +1,31 @@
 -- Laws of refusals 1 to 4: tests at every slot, and the first test that fails.
 -- Assumes nothing.
-use Prim.Native.Nat.{ℕ, zero, suc, _+_, _*_, _≤_, _<_}
-use mathlib.Core.Path.{_≡_, refl, sym, _∙_}
-use mathlib.Core.Bool.{Bool, true, false, _&&_, cond, true≢false}
+use Prim.Native.Nat.{ℕ, _*_, _≤_, _<_}
+use mathlib.Core.Path.{_≡_, refl, ap, sym}
+use mathlib.Core.Bool.{Bool, true, false, _&&_, cond}
 use mathlib.Core.List.{List}
-use mathlib.Core.Logic.{⊎-elim}
 use native.Mathlib.Omega.{arith}
-use native.Mathlib.Nat.{eq-or-lt-of-le}
-use native.Mathlib.Numerals.{add-one}
-use lib.ListN.{length}
+use lib.ListN.{length, getD}
 use lib.Dec.{leb, ltb, eqb}
 use borrow.Author.Tests.{ltb-true, leb-true, eqb-true}
-use Rattle.bits.proofs.Tests.{both, both-left, both-right}
+use Rattle.bits.proofs.Tests.{both-left, both-right}
 use Rattle.registers.specs.declared.Kind.{Kind}
 use Rattle.registers.specs.declared.Kind.the-variants.{Endpoint}
-use Rattle.registers.specs.Rows.{defaultAllowed}
+use Rattle.registers.specs.Rows.{checkedWords, defaultAllowed}
 use Rattle.readiness.specs.declared.Setup.{Setup}
 use Rattle.records.specs.Requests.{wordAt}
 use Rattle.demand3.specs.Held.{Held}
-use Rattle.demand3.specs.Refusals.{every, lengthsFit, queueFits, allCodesAllowed, checkedWords, wordsAllowed, allDefaultsAllowed, firstFailed, setUpTests, setUpRefusal}
+use Rattle.demand3.specs.Refusals.{lengthsFit, queueFits, allCodesAllowed, wordsAllowed, allDefaultsAllowed, firstFailed, setUpTests, setUpRefusal}
 
--- ---- a test at every number below a bound
-pub every-at : (n : ℕ) (p : ℕ → Bool) → every n p ≡ true → (i : ℕ) → i < n → p i ≡ true
-unfolding every
-every-at zero p e i h = absurd (omega arith)
-every-at (suc n) p e i h =
-    ⊎-elim
-    (λ (q : suc i ≡ suc n). let m : i ≡ n = omega arith in rw m (both-right (every n p) (p n) e))
-    (λ (k : suc i < suc n). every-at n p (both-left (every n p) (p n) e) i (omega arith))
-    (eq-or-lt-of-le h)
+-- the words of a slot whose defaults are looked at: of each kind, two
+abbrev pub wordAllowed : Kind → (defaults : List ℕ) → (slot word : ℕ) → Bool
+wordAllowed kind defaults slot word = defaultAllowed kind word (wordAt defaults slot word)
 
-pub every-none : (p : ℕ → Bool) → every 0 p ≡ true
-unfolding every
-every-none p = refl
-
-pub every-more : (n : ℕ) (p : ℕ → Bool) → every n p ≡ true → p n ≡ true → every (n + 1) p ≡ true
-unfolding every
-every-more n p e f = rw add-one (both (every n p) (p n) e f)
-
-pub every-not : (n : ℕ) (p : ℕ → Bool) (i : ℕ) → i < n → p i ≡ false → every n p ≡ false
-every-not n p i h e = go (every n p) refl
-  where
-    go : (t : Bool) → every n p ≡ t → t ≡ false
-    go false q = refl
-    go true q = absurd (true≢false (sym (every-at n p q i h) ∙ e))
-
--- the words of a slot whose defaults are looked at
-pub words-checked : (kind : Kind) (defaults : List ℕ) (slot : ℕ)
-    → wordsAllowed kind defaults slot (checkedWords kind) ≡ (defaultAllowed kind 0x11 (wordAt defaults slot 0x11) && (defaultAllowed kind 0x1E (wordAt defaults slot 0x1E) && true))
+pub words-checked : (kind : Kind) (defaults : List ℕ) (slot : ℕ) (words : List ℕ) → words ≡ checkedWords kind
+    → wordsAllowed kind defaults slot (checkedWords kind) ≡ (wordAllowed kind defaults slot (getD words 0 0) && (wordAllowed kind defaults slot (getD words 1 0) && true))
 unfolding wordsAllowed
-words-checked Endpoint defaults slot = refl
+words-checked Endpoint defaults slot words e =
+    ap (λ (l : List ℕ). wordAllowed Endpoint defaults slot (getD l 0 0) && (wordAllowed Endpoint defaults slot (getD l 1 0) && true)) (sym e)
 
 -- ---- lengths that fit
 pub record Fits (slots statuses live defaults : ℕ) : Type 0 where

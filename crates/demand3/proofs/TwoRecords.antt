@@ -7,6 +7,7 @@ use mathlib.Core.List.{List, [], _++_}
 use native.Mathlib.Omega.{arith}
 use native.Mathlib.Nat.{div-div-eq-div-mul}
 use lib.ListN.{length}
+use Rattle.bits.proofs.Numbers.{four-bytes}
 use Rattle.bits.specs.Bits.{bit}
 use Rattle.bits.proofs.Bits.{bit-above}
 use Rattle.frs_queue.specs.declared.Tally.{Tally}
@@ -18,7 +19,7 @@ use Rattle.records.specs.declared.Record.the-variants.{Advance}
 use Rattle.records.specs.State.{State}
 use Rattle.records.specs.Decode.{four, decode}
 use Rattle.records.specs.Answer.{completionNumber, one, interrupts, answerBytes, Ran}
-use Rattle.records.specs.CardRecords.{clockEnd}
+use Rattle.times.specs.Moments.{clockEnd}
 use Rattle.records.specs.Run.{run}
 use Rattle.records.proofs.Laws.{TwoAreOne, two-advances-are-one}
 use Rattle.records.proofs.Queued.{interrupt-bits}
@@ -26,15 +27,6 @@ use Rattle.records.specs.Device.{inBytes, device}
 use Rattle.demand3.specs.Claim.{advanceBy, AddUp}
 
 -- ---- a record 01 and its bytes
-four-bytes : (n : ℕ) → n < 4294967296 → n % 256 + 256 * (n / 256 % 256) + 65536 * (n / 65536 % 256) + 16777216 * (n / 16777216 % 256) ≡ n
-four-bytes n h =
-    let a : n / 65536 ≡ n / 256 / 256 = sym (div-div-eq-div-mul n 256 256) in
-    let b : n / 16777216 ≡ n / 256 / 256 / 256 = sym (div-div-eq-div-mul (n / 256) 256 256 ∙ div-div-eq-div-mul n 256 65536) in
-    rw (a, b) (sums n (n / 256) (n / 256 / 256) (n / 256 / 256 / 256) refl refl refl h)
-  where
-    sums : (n p q r : ℕ) → n / 256 ≡ p → p / 256 ≡ q → q / 256 ≡ r → n < 4294967296 → n % 256 + 256 * (p % 256) + 65536 * (q % 256) + 16777216 * (r % 256) ≡ n
-    sums n p q r d e f h = omega arith
-
 abbrev advance : ℕ → Record
 advance n = Advance (record { 0 = n })
 

@@ -12,7 +12,7 @@ use Rattle.trace.specs.Lent.{refusal}
 use Rattle.trace.specs.Calls.{Call, Came, BytesIn, noCall, before, slicesOf, gave, beyond, placed, allRefused, expected}
 use Rattle.readiness.specs.declared.Setup.{Setup}
 use Rattle.records.specs.State.{State}
-use Rattle.records.specs.CardRecords.{clockEnd}
+use Rattle.times.specs.Moments.{clockEnd}
 use Rattle.demand3.specs.Held.{Held, stateOf, carriedOf, benchOf, heldOf}
 use Rattle.demand3.specs.Refusals.{setUpRefusal, soundHeld}
 use Rattle.demand3.specs.SettingUp.{setsUp}

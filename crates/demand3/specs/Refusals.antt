@@ -1,28 +1,23 @@
 -- Numbers given for no (01), 1 to 5: the first that applies.
 -- Assumes nothing.
-use Prim.Native.Nat.{ℕ, zero, suc, _*_}
-use mathlib.Core.Bool.{Bool, true, false, not, _&&_, _||_, cond}
+use Prim.Native.Nat.{ℕ, _*_}
+use mathlib.Core.Bool.{Bool, true, _&&_, cond}
 use mathlib.Core.List.{List, [], _∷_}
 use lib.Dec.{eqb, leb, ltb}
-use lib.ListN.{length, getD}
+use lib.ListN.{length}
+use Rattle.bits.specs.Every.{every}
 use Rattle.times.specs.Codes.{allowed}
 use Rattle.registers.specs.declared.Kind.{Kind}
-use Rattle.registers.specs.declared.Kind.the-variants.{Endpoint}
-use Rattle.registers.specs.Rows.{defaultAllowed}
+use Rattle.registers.specs.Rows.{checkedWords, defaultAllowed}
 use Rattle.readiness.specs.declared.Slot.{Slot}
 use Rattle.readiness.specs.declared.Setup.{Setup}
 use Rattle.readiness.specs.Status.{entryOf}
 use Rattle.trace.specs.Format.{begun}
-use Rattle.records.specs.State.{kindOf}
+use Rattle.records.specs.State.{slotKind}
 use Rattle.records.specs.Requests.{wordAt}
 use Rattle.records.specs.Sound.{sound}
 use Rattle.records.specs.declared.Port.{Port}
 use Rattle.demand3.specs.Held.{Held, stateOf, carriedOf}
-
--- p holds at every number below n
-unfoldable pub every : ℕ → (ℕ → Bool) → Bool
-every zero p = true
-every (suc n) p = every n p && p n
 
 -- slots 1 to 32, one status per slot, 64 live and 64 default registers per slot
 unfoldable pub lengthsFit : (slots statuses live defaults : ℕ) → Bool
@@ -40,17 +35,14 @@ codesAllowed e = allowed (e .reset) && allowed (e .«dl_up») && allowed (e .flr
 unfoldable pub allCodesAllowed : Setup → Bool
 allCodesAllowed setup = every (setup .slots) λ i. codesAllowed (entryOf setup i)
 
--- the words of which some default bits must be 0: 44h and 78h
-abbrev pub checkedWords : Kind → List ℕ
-checkedWords Endpoint = 0x11 ∷ 0x1E ∷ []
-
+-- a slot's default words, of those listed, have none of the bits set that must be 0
 unfoldable pub wordsAllowed : Kind → (defaults : List ℕ) → (slot : ℕ) → List ℕ → Bool
 wordsAllowed kind defaults slot [] = true
 wordsAllowed kind defaults slot (word ∷ words) = defaultAllowed kind word (wordAt defaults slot word) && wordsAllowed kind defaults slot words
 
 -- no default with bit 15 or 21 of 78h or bits 1:0 of 44h set
 unfoldable pub allDefaultsAllowed : Setup → (defaults : List ℕ) → Bool
-allDefaultsAllowed setup defaults = every (setup .slots) λ i. wordsAllowed (kindOf setup i) defaults i (checkedWords (kindOf setup i))
+allDefaultsAllowed setup defaults = every (setup .slots) λ i. wordsAllowed (slotKind setup i) defaults i (checkedWords (slotKind setup i))
 
 -- a number given for no, and the test that must hold
 pub record Test : Type 0 where

@@ -2,6 +2,7 @@
 use crate::files::complain_line;
 use crate::files::last_error;
 use crate::files::name_file;
+use gather::gathering::size_of;
 use line_text::numbers::byte_at;
 use line_text::numbers::wide;
 use line_text::numbers::wide8;
@@ -88,20 +89,6 @@ pub fn nothing_held() -> Held {
         bytes: [0u8; 17],
         count: 0,
         size: 0,
-    }
-}
-
-// How many bytes a record of each kind has, its byte of kind with them; 0 where there is no such kind.
-pub fn size_of(kind: u8) -> usize {
-    match kind {
-        0x01 => 5,
-        0x02 => 4,
-        0x03 => 8,
-        0x04 => 17,
-        0x05 | 0x06 | 0x07 | 0x08 | 0x09 | 0x0D => 1,
-        0x0A | 0x0B => 2,
-        0x0C => 7,
-        _ => 0,
     }
 }
 

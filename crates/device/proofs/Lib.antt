@@ -1,4 +1,2 @@
-pub mod Choices
 pub mod Answers
-pub mod Every
 pub mod Resting

@@ -45,7 +45,7 @@ ready-answered bus entry slot before z n e =
 
 -- a record after which no slot is due and no DRS is to be told is answered with what it leaves
 pub rest-answered : (setup : Setup) (before : State) (dev : Dev) (statuses : List Status) (live cells : List ℕ)
-    → due (dev .clock) statuses ≡ [] → (dev .owed && allReady statuses) ≡ false
+    → due (dev .clock) statuses ≡ [] → (dev .owed && allReady setup statuses) ≡ false
     → answered setup before (does (state dev statuses live cells) noTally 0) ≡ record { after = state dev statuses live cells; reply = reply completion.Done noTally 0 }
 unfolding answered
 rest-answered setup before dev statuses live cells e d =

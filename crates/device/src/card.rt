@@ -2,9 +2,10 @@
 ghost use mathlib.Core.Path.{_≡_};
 ghost use mathlib.Core.Bool.{true, false, _&&_};
 ghost use mathlib.Core.List.{List, []};
-ghost use Prim.Native.Nat.{ℕ, _≤_};
+ghost use Prim.Native.Nat.{ℕ, _*_, _≤_};
 ghost use lib.ListN.{length};
 ghost use Rattle.registers.specs.Rows.{masks};
+ghost use Rattle.config_space.specs.Functions.{linkResetAll};
 ghost use Rattle.times.specs.Moments.{sumOf};
 ghost use Rattle.frs_queue.specs.Queue.{noTally};
 ghost use Rattle.readiness.specs.declared.Status.{Status};
@@ -12,12 +13,14 @@ ghost use Rattle.readiness.specs.declared.Setup.{Setup};
 ghost use Rattle.readiness.specs.Status.{allReady};
 ghost use Rattle.readiness.specs.Events.{due};
 ghost use Rattle.records.specs.declared.Record.the-variants as variants;
-ghost use Rattle.records.specs.State.{State, state, cardKind};
+ghost use Rattle.records.specs.State.{State, state, slotKind};
 ghost use Rattle.records.specs.Answer.{does, answered};
-ghost use Rattle.records.specs.CardRecords.{withClock, advanceEffect, linkUpEffect, linkDownEffect, coldResetEffect};
+ghost use Rattle.readiness.specs.Fields.{withClock};
+ghost use Rattle.records.specs.CardRecords.{advanceEffect, linkUpEffect, linkDownEffect, coldResetEffect};
 ghost use Rattle.readiness.specs.Phases.{statusesIn};
 ghost use Rattle.records.specs.Parts.{cardEffect, cardRun, cardRan, startedEffect, isRefused};
 use crate::answering::plain_reply;
+use crate::kinds::kind_of_entry;
 use crate::port::root_port;
 use readiness::Dev;
 use readiness::Setup;
@@ -26,33 +29,15 @@ use records::PortDone;
 use records::Record;
 use records::Reply;
 use records::Started;
-use registers::Kind;
 use registers::Masks;
 use times::Nanos;
-
-// The clock goes no further than this.
-pub const CLOCK_END: u64 = 1000000000000000;
-
-// The kind of every slot of the card.
-fn card_kind(setup: Setup) -> Kind
-    ensures { λ r. ⌜ r ≡ cardKind setup ⌝ }
-{
-    Kind::Endpoint
-}
 
 fn with_clock(dev: Dev, clock: Nanos) -> Dev
     ensures { λ r. ⌜ r ≡ withClock dev clock ⌝ }
 {
-    let control = dev.control;
-    let queue = dev.queue;
-    Dev {
-        clock: clock,
-        link: dev.link,
-        owed: dev.owed,
-        drs_received: dev.drs_received,
-        control: control,
-        queue: queue,
-    }
+    let mut after = dev;
+    after.clock = clock;
+    after
 }
 
 // Advance clock; 22 if the clock would pass its end.
@@ -60,7 +45,7 @@ fn advance(dev: Dev, by: Nanos) -> Started
     ensures { λ r. ⌜ ((statuses : List Status) (live cells : List ℕ) → startedEffect r statuses live cells ≡ advanceEffect by (state dev statuses live cells)) ⌝ }
 {
     let clock = times::sum(dev.clock, by);
-    if times::nanos_number(clock) <= CLOCK_END {
+    if times::nanos_number(clock) <= times::CLOCK_END {
         return Started::Does(with_clock(dev, clock));
     }
     Started::Refused(Completion::ClockEnd)
@@ -68,10 +53,10 @@ fn advance(dev: Dev, by: Nanos) -> Started
 
 // Advance clock where no slot becomes Ready and no DRS is to be told: the clock alone moves.
 pub fn advance_alone(dev: Dev, by: Nanos) -> PortDone
-    ensures { λ r. ⌜ ((setup : Setup) (defaults : List ℕ) (statuses : List Status) (live cells : List ℕ) → due (sumOf (dev .clock) by) statuses ≡ [] → (dev .owed && allReady statuses) ≡ false → cardRun setup defaults (variants.Advance by) (state dev statuses live cells) ≡ record { after = state (r .dev) statuses live cells; reply = r .reply }) ⌝ }
+    ensures { λ r. ⌜ ((setup : Setup) (defaults : List ℕ) (statuses : List Status) (live cells : List ℕ) → due (sumOf (dev .clock) by) statuses ≡ [] → (dev .owed && allReady setup statuses) ≡ false → cardRun setup defaults (variants.Advance by) (state dev statuses live cells) ≡ record { after = state (r .dev) statuses live cells; reply = r .reply }) ⌝ }
 {
     let clock = times::sum(dev.clock, by);
-    if times::nanos_number(clock) <= CLOCK_END {
+    if times::nanos_number(clock) <= times::CLOCK_END {
         return PortDone {
             dev: with_clock(dev, clock),
             reply: plain_reply(Completion::Done, 0),
@@ -96,7 +81,24 @@ fn link_up(setup: Setup, dev: Dev, phases: &mut [u64]) -> Started
     Started::Does(settle::after_link_up(dev))
 }
 
-// Link down: registers take their link-down reset; 23 when down.
+// Link down of the registers, slot by slot, each by its kind.
+fn reset_links(table: &Masks, setup: Setup, live: &mut [u32], defaults: &[u32])
+    requires { ⌜ now table ≡ masks ⌝ }
+    requires { ⌜ (setup .slots ≤ 32) × (length (now live) ≤ setup .slots * 64) ⌝ }
+    ensures { λ _. ⌜ now (live .exit) ≡ linkResetAll (slotKind setup) (now (live .entry)) (now (defaults .entry)) ⌝ }
+{
+    let first = setup.entries[0];
+    let mut last = config_words::link_masks_of(table, kind_of_entry(first));
+    let mut i: usize = 0;
+    while i < setup.slots {
+        let entry = setup.entries[i];
+        let kind = kind_of_entry(entry);
+        last = config_words::link_reset_next(table, last, kind, i, &mut *live, defaults);
+        i += 1;
+    }
+}
+
+// Link down: each slot's registers take their link-down reset; 23 when down.
 fn link_down(
     table: &Masks,
     setup: Setup,
@@ -106,13 +108,13 @@ fn link_down(
     defaults: &[u32],
 ) -> Started
     requires { ⌜ now table ≡ masks ⌝ }
-    requires { ⌜ length (statusesIn (now phases)) ≡ setup .slots ⌝ }
+    requires { ⌜ (setup .slots ≤ 32) × (length (statusesIn (now phases)) ≡ setup .slots) × (length (now live) ≤ setup .slots * 64) ⌝ }
     ensures { λ r. ⌜ ((cells : List ℕ) → startedEffect r (statusesIn (now (phases .exit))) (now (live .exit)) cells ≡ linkDownEffect setup (now (defaults .entry)) (state dev (statusesIn (now (phases .entry))) (now (live .entry)) cells)) ⌝ }
     ensures { λ r. ⌜ (isRefused r ≡ true → (now (phases .exit) ≡ now (phases .entry)) × (now (live .exit) ≡ now (live .entry))) ⌝ }
 {
     if dev.link {
-        config_words::link_reset_all(table, card_kind(setup), live, defaults);
-        settle::stop_all(setup, phases);
+        reset_links(table, setup, live, defaults);
+        settle::stop_all(setup, dev, phases);
         return Started::Does(settle::after_link_down(dev));
     }
     Started::Refused(Completion::WrongState)
@@ -131,7 +133,7 @@ fn cold_reset(
     ensures { λ r. ⌜ isRefused r ≡ false ⌝ }
 {
     config_words::cold_reset(live, defaults);
-    settle::stop_all(setup, phases);
+    settle::stop_all(setup, dev, phases);
     Started::Does(settle::after_cold_reset(dev))
 }
 
@@ -146,7 +148,7 @@ fn start(
     record: Record,
 ) -> Started
     requires { ⌜ now table ≡ masks ⌝ }
-    requires { ⌜ (setup .slots ≤ 32) × (length (statusesIn (now phases)) ≡ setup .slots) ⌝ }
+    requires { ⌜ (setup .slots ≤ 32) × (length (statusesIn (now phases)) ≡ setup .slots) × (length (now live) ≤ setup .slots * 64) ⌝ }
     ensures { λ r. ⌜ ((cells : List ℕ) → startedEffect r (statusesIn (now (phases .exit))) (now (live .exit)) cells ≡ cardEffect setup (now (defaults .entry)) «record» (state dev (statusesIn (now (phases .entry))) (now (live .entry)) cells)) ⌝ }
     ensures { λ r. ⌜ (isRefused r ≡ true → (now (phases .exit) ≡ now (phases .entry)) × (now (live .exit) ≡ now (live .entry))) ⌝ }
 {
@@ -198,7 +200,7 @@ pub fn run_card(
     record: Record,
 ) -> PortDone
     requires { ⌜ now table ≡ masks ⌝ }
-    requires { ⌜ (setup .slots ≤ 32) × (length (statusesIn (now phases)) ≡ setup .slots) ⌝ }
+    requires { ⌜ (setup .slots ≤ 32) × (length (statusesIn (now phases)) ≡ setup .slots) × (length (now live) ≤ setup .slots * 64) ⌝ }
     ensures { λ r. ⌜ cardRan r (statusesIn (now (phases .exit))) (now (live .exit)) (now (cells .exit)) ≡ cardRun setup (now (defaults .entry)) «record» (state dev (statusesIn (now (phases .entry))) (now (live .entry)) (now (cells .entry))) ⌝ }
 {
     let started = start(

@@ -8,7 +8,8 @@ ghost use Rattle.messages.specs.declared.Message.the-variants as message;
 ghost use Rattle.records.specs.declared.Record.the-variants as variants;
 ghost use Rattle.records.specs.declared.Completion.the-variants as completion;
 ghost use Rattle.records.specs.Answer.{reply};
-ghost use Rattle.records.specs.PortRecords.{front, messageDone, messageEffect, withQueue, withControl, clearedDev, controlOf, controlEffect, statusBits};
+ghost use Rattle.readiness.specs.Fields.{withQueue, withControl};
+ghost use Rattle.records.specs.PortRecords.{front, messageDone, messageEffect, clearedDev, controlOf, controlEffect, statusBits};
 ghost use Rattle.records.specs.Parts.{portAnswered, portRun, portRan};
 use crate::answering::no_tally;
 use crate::answering::one;
@@ -110,38 +111,25 @@ fn message_record(port_id: u16, dev: Dev, cells: &mut [u32], message: Message) -
 fn with_queue(dev: Dev, queue: Queue) -> Dev
     ensures { λ r. ⌜ r ≡ withQueue dev queue ⌝ }
 {
-    let clock = dev.clock;
-    let control = dev.control;
-    Dev {
-        clock: clock,
-        link: dev.link,
-        owed: dev.owed,
-        drs_received: dev.drs_received,
-        control: control,
-        queue: queue,
-    }
+    let mut after = dev;
+    after.queue = queue;
+    after
 }
 
 // Clear status bits where 1: 0 Received, 1 Overflow, 2 DRS Received; others ignored.
 fn clear_bits(mask: u8, dev: Dev) -> Dev
     ensures { λ r. ⌜ r ≡ clearedDev mask dev ⌝ }
 {
-    let clock = dev.clock;
-    let control = dev.control;
-    let queue = dev.queue;
-    Dev {
-        clock: clock,
-        link: dev.link,
-        owed: dev.owed,
-        drs_received: dev.drs_received & (mask & 4 == 0),
-        control: control,
-        queue: Queue {
-            start: queue.start,
-            depth: queue.depth,
-            received: queue.received & (mask & 1 == 0),
-            overflow: queue.overflow & (mask & 2 == 0),
-        },
-    }
+    let mut queue = dev.queue;
+    let received = queue.received & (mask & 1 == 0);
+    let overflow = queue.overflow & (mask & 2 == 0);
+    queue.received = received;
+    queue.overflow = overflow;
+    let mut after = dev;
+    let drs_received = dev.drs_received & (mask & 4 == 0);
+    after.drs_received = drs_received;
+    after.queue = queue;
+    after
 }
 
 // The control byte: bit 0 CRS visibility, bit 1 FRS interrupt, bits 3:2 signalling.
@@ -158,16 +146,9 @@ fn control_of(b: u8) -> Control
 fn with_control(dev: Dev, control: Control) -> Dev
     ensures { λ r. ⌜ r ≡ withControl dev control ⌝ }
 {
-    let clock = dev.clock;
-    let queue = dev.queue;
-    Dev {
-        clock: clock,
-        link: dev.link,
-        owed: dev.owed,
-        drs_received: dev.drs_received,
-        control: control,
-        queue: queue,
-    }
+    let mut after = dev;
+    after.control = control;
+    after
 }
 
 // A control byte above 15, or signalling 3, is refused.
@@ -183,18 +164,12 @@ fn control_record(b: u8, dev: Dev) -> PortDone
     done(with_control(dev, control_of(b)), Completion::Done, 0)
 }
 
-fn wide(x: u8) -> u32
-    ensures { λ r. ⌜ r ≡ x ⌝ }
-{
-    x as u32
-}
-
 // The three status bits, numbered as they are cleared.
 fn status_bits(dev: Dev) -> u32
     ensures { λ r. ⌜ r ≡ statusBits dev ⌝ }
 {
     let queue = dev.queue;
-    wide(one(queue.received) + 2 * one(queue.overflow) + 4 * one(dev.drs_received))
+    bits::u32_of_u8(one(queue.received) + 2 * one(queue.overflow) + 4 * one(dev.drs_received))
 }
 
 // A record that touches the root port alone runs. A request to a slot that there is not is refused with 20.

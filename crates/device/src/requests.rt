@@ -11,9 +11,9 @@ ghost use Rattle.readiness.specs.declared.Dev.{Dev};
 ghost use Rattle.readiness.specs.declared.Slot.{Slot};
 ghost use Rattle.frs_queue.specs.Queue.{noTally};
 ghost use Rattle.records.specs.declared.Record.the-variants as variants;
-ghost use Rattle.records.specs.State.{Seat, seat, kindOf};
+ghost use Rattle.records.specs.State.{Seat, seat};
 ghost use Rattle.records.specs.Answer.{does};
-ghost use Rattle.records.specs.Requests.{startsD3hot, writeSeat};
+ghost use Rattle.records.specs.Requests.{writeSeat};
 ghost use Rattle.records.specs.Parts.{slotAnswered, slotRun, slotRan};
 use crate::answering::plain_reply;
 use crate::port::root_port;
@@ -22,7 +22,6 @@ use crate::routing::refused_data;
 use crate::routing::route_completion;
 use crate::routing::route_of;
 use readiness::Dev;
-use readiness::Setup;
 use readiness::Slot;
 use readiness::Status;
 use records::Completion;
@@ -31,20 +30,6 @@ use records::Request;
 use records::SlotDone;
 use registers::Kind;
 use registers::Masks;
-
-// What a slot holds.
-pub fn kind_of(setup: Setup, slot: usize) -> Kind
-    ensures { λ r. ⌜ r ≡ kindOf setup slot ⌝ }
-{
-    Kind::Endpoint
-}
-
-// A write that takes PowerState from 3 to 0.
-fn starts_d3hot(word: usize, old: u32, new: u32) -> bool
-    ensures { λ r. ⌜ r ≡ startsD3hot word old new ⌝ }
-{
-    (word == 0x11) & (registers::power_state(old) == 3) & (registers::power_state(new) == 0)
-}
 
 // As link down in that slot, if No_Soft_Reset is 0 in the new PMCSR; else no other bit changes.
 fn d3hot_reset(table: &Masks, kind: Kind, slot: usize, new: u32, live: &mut [u32], defaults: &[u32])
@@ -76,7 +61,7 @@ fn write_ready(
     let slot = q.slot;
     let word = q.word;
     let at = slot * 64 + word;
-    let capabilities = slot * 64 + 0x1D;
+    let capabilities = slot * 64 + registers::flr_capability_word(kind);
     let old = live[at];
     let new = registers::write_word(table, kind, word, old, value, q.enables);
     live[at] = new;
@@ -85,7 +70,7 @@ fn write_ready(
         config_words::flr_reset_slot(table, kind, slot, live, defaults);
         return settle::flr_status(clock, entry);
     }
-    if starts_d3hot(word, old, new) {
+    if registers::starts_d3hot(kind, word, old, new) {
         d3hot_reset(table, kind, slot, new, live, defaults);
         return settle::d3hot_status(clock, entry);
     }
@@ -133,7 +118,7 @@ pub fn run_read(
     requires { ⌜ 64 * slots ≤ length (now live) ⌝ }
     ensures { λ r. ⌜ ((bus : ℕ) (entry : Slot) (defaults : List ℕ) (slot : ℕ) (cells : List ℕ) → slotRun slots kind bus entry defaults slot (variants.Read q) (seat dev status (now (live .entry)) cells) ≡ record { after = seat dev status (now (live .entry)) cells; reply = r }) ⌝ }
 {
-    let route = route_of(slots, dev, status, true, q);
+    let route = route_of(slots, kind, dev, status, true, q);
     if is_access(route) {
         let slot = q.slot;
         let word = q.word;
@@ -189,7 +174,7 @@ pub fn run_write(
     requires { ⌜ (slot < 32) × (64 * slots ≤ length (now live)) × (64 * slots ≤ length (now defaults)) ⌝ }
     ensures { λ r. ⌜ slotRan r (now (live .exit)) (now (cells .exit)) ≡ slotRun slots kind bus entry (now (defaults .entry)) slot (variants.Write q value) (seat dev status (now (live .entry)) (now (cells .entry))) ⌝ }
 {
-    let route = route_of(slots, dev, status, false, q);
+    let route = route_of(slots, kind, dev, status, false, q);
     if is_access(route) {
         let after = write_ready(table, kind, entry, dev, status, live, defaults, q, value);
         return finished(bus, entry, slot, dev, after, cells);

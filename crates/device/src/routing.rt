@@ -11,6 +11,7 @@ use records::Completion;
 use records::Crs;
 use records::Request;
 use records::Route;
+use registers::Kind;
 use registers::lane_mask;
 use times::Nanos;
 
@@ -69,9 +70,16 @@ fn phase_route(clock: Nanos, phase: Phase, visibility: bool, is_read: bool, q: R
     }
 }
 
-// Order: 20, 21, 24, 18, then 16 or 17. Access is for a slot and a word that there are.
-pub fn route_of(slots: usize, dev: Dev, status: Status, is_read: bool, q: Request) -> Route
-    ensures { λ r. ⌜ r ≡ routeOf slots dev status «is_read» q ⌝ }
+// Order: 20, 21, 24, 18, then 16 or 17; the same for every kind. Access is for a slot and a word that there are.
+pub fn route_of(
+    slots: usize,
+    kind: Kind,
+    dev: Dev,
+    status: Status,
+    is_read: bool,
+    q: Request,
+) -> Route
+    ensures { λ r. ⌜ r ≡ routeOf slots kind dev status «is_read» q ⌝ }
     ensures { λ r. ⌜ (isAccess r ≡ true → (q .slot < slots) × (q .word < 64)) ⌝ }
 {
     if slots <= q.slot {

@@ -10,17 +10,13 @@ ghost use Rattle.frs_queue.specs.Queue.{placeOf};
 ghost use Rattle.readiness.specs.declared.Setup.{Setup};
 ghost use Rattle.readiness.specs.Phases.{statusesIn};
 ghost use Rattle.records.specs.State.{state};
-ghost use Rattle.records.specs.Sound.{soundCause, soundPhase, matchesLink, soundStatus, soundStatuses, soundCells, soundOwed, sound};
-use crate::card::CLOCK_END;
+ghost use Rattle.records.specs.Sound.{soundCause, soundPhase, matchesLink, soundStatus, soundStatuses, soundCell, soundCells, soundOwed, sound};
 use readiness::Cause;
 use readiness::Dev;
 use readiness::Phase;
 use readiness::Status;
 use settle::phases::status_at;
 use times::Nanos;
-
-// The time of the greatest code.
-const GREATEST_TIME: u64 = 1006632960;
 
 // After the clock, and at most the greatest time after it.
 fn waits(clock: Nanos, ready: Nanos) -> bool
@@ -29,7 +25,7 @@ fn waits(clock: Nanos, ready: Nanos) -> bool
     let now = times::nanos_number(clock);
     let then = times::nanos_number(ready);
     if now < then {
-        return then - now <= GREATEST_TIME;
+        return then - now <= times::GREATEST_TIME;
     }
     false
 }
@@ -93,25 +89,31 @@ fn sound_statuses(slots: usize, dev: Dev, phases: &[u64]) -> bool
 
 // The cell of the message that stands k places behind the oldest.
 fn cell_at(cells: &[u32], start: usize, k: usize) -> u32
-    requires { ⌜ (start < length (now cells)) × (k < length (now cells)) ⌝ }
+    requires { ⌜ k < length (now cells) ⌝ }
     ensures { λ r. ⌜ r ≡ getD (now (cells .entry)) (placeOf (length (now (cells .entry))) start k) 0 ⌝ }
 {
-    let room = cells.len() - start;
-    if k < room {
-        cells[start + k]
-    } else {
-        cells[k - room]
-    }
+    let at = frs_queue::place(start, k, cells.len());
+    cells[at]
 }
 
-// Each live cell is below 2^20.
+// A live cell is below 2^20, and its reason is one that an FRS may have.
+fn sound_cell(value: u32) -> bool
+    ensures { λ r. ⌜ r ≡ soundCell value ⌝ }
+{
+    if value < 1048576 {
+        return messages::frs_allowed((value / 65536) as u8);
+    }
+    false
+}
+
+// Each live cell.
 fn sound_cells(depth: usize, cells: &[u32], start: usize) -> bool
-    requires { ⌜ (start < length (now cells)) × (depth ≤ length (now cells)) ⌝ }
+    requires { ⌜ depth ≤ length (now cells) ⌝ }
     ensures { λ r. ⌜ r ≡ soundCells depth (now (cells .entry)) start ⌝ }
 {
     let mut k = 0;
     while k < depth {
-        if cell_at(cells, start, k) < 1048576 {
+        if sound_cell(cell_at(cells, start, k)) {
             k += 1;
         } else {
             return false;
@@ -123,7 +125,7 @@ fn sound_cells(depth: usize, cells: &[u32], start: usize) -> bool
 // A DRS isn't owed with the link down, nor with every slot Ready.
 fn sound_owed(dev: Dev, slots: usize, phases: &[u64]) -> bool
     requires { ⌜ length (statusesIn (now phases)) ≡ slots ⌝ }
-    ensures { λ r. ⌜ r ≡ soundOwed dev (statusesIn (now (phases .entry))) ⌝ }
+    ensures { λ r. ⌜ ((setup : Setup) → setup .slots ≡ slots → r ≡ soundOwed setup dev (statusesIn (now (phases .entry)))) ⌝ }
 {
     if dev.owed {
         dev.link & !settle::all_ready(slots, phases)
@@ -141,7 +143,7 @@ pub fn is_sound(slots: usize, dev: Dev, phases: &[u64], cells: &[u32]) -> bool
     let control = dev.control;
     let start = queue.start;
     let depth = queue.depth;
-    if CLOCK_END < times::nanos_number(dev.clock) {
+    if times::CLOCK_END < times::nanos_number(dev.clock) {
         return false;
     }
     if cells.len() <= start {

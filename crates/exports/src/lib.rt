@@ -1,12 +1,26 @@
 // The static library for the benchmark: a card's text and a trace in, answers and the final state as bytes out.
-ghost use Prim.Native.Nat.{_≤_};
+ghost use mathlib.Core.Path.{_≡_};
+ghost use mathlib.Core.List.{_++_};
+ghost use Prim.Native.Nat.{_+_, _*_, _≤_};
+ghost use lib.ListN.{length, take, replicate};
+ghost use lib.Seq.{sets};
+ghost use Rattle.bits.specs.Widths.{atMost};
+ghost use Rattle.readiness.specs.Status.{down};
+ghost use Rattle.demand3.specs.Held.{held, lentOf};
+ghost use Rattle.records.specs.Blank.{blankPort};
+ghost use Rattle.in_pieces.specs.Pieces.{runsOn};
+ghost use Rattle.image_layout.specs.Numbers.{lowFirst};
+ghost use Rattle.image_layout.specs.Image.{stateBytes};
+ghost use Rattle.exports.specs.Run.{shown, imageOf, imageSize, showing, runOnCard, runOf};
+use bits::at_most;
+use bits::u64_of_u8;
+use bits::u64_of_usize;
 use card_grammar::CardRead;
 use feed::Fed;
 use image::numbers::put_eight;
-use image::numbers::put_first;
 use image::numbers::put_words_at;
 use image::state::image_size;
-use image::state::state_bytes;
+use image::state::put_state;
 use pieces::run_over;
 use readiness::Setup;
 use readiness::Status;
@@ -18,41 +32,42 @@ const BAD_CARD: u64 = 100;
 // The image is too short.
 const SHORT_IMAGE: u64 = 101;
 
-fn at_most(n: usize, most: usize) -> usize
-    ensures { λ r. ⌜ r ≤ most ⌝ }
-{
-    if n <= most { n } else { most }
-}
-
 // ---- The image
 
 // The two counts, the port and the statuses, the live words, the queue cells.
 fn image_bytes(slots: usize, queue: usize) -> usize
     requires { ⌜ (slots ≤ 32) × (queue ≤ 4095) ⌝ }
+    ensures { λ r. ⌜ r ≡ imageSize slots queue ⌝ }
 {
     16 + image_size(slots) + 256 * slots + 4 * queue
 }
 
-fn put_counts(image: &mut [u8], consumed: usize, written: usize) {
-    put_eight(&mut *image, 0, consumed as u64);
-    put_eight(&mut *image, 8, written as u64);
+fn put_counts(image: &mut [u8], consumed: usize, written: usize)
+    ensures { λ _. ⌜ now (image .exit) ≡ sets (now (image .entry)) 0 (lowFirst 8 consumed ++ lowFirst 8 written) ⌝ }
+{
+    put_eight(&mut *image, 0, u64_of_usize(consumed));
+    put_eight(&mut *image, 8, u64_of_usize(written));
 }
 
-fn put_state(image: &mut [u8], slots: usize, port: Port, statuses: [Status; 32]) {
-    let bytes = state_bytes(port, statuses);
-    if 16 <= image.len() {
-        put_first(&mut image[16..], &bytes, image_size(slots));
-    }
+fn put_state_behind(image: &mut [u8], slots: usize, port: Port, statuses: [Status; 32])
+    requires { ⌜ (slots ≤ 32) × (16 + (46 + 27 * slots) ≤ length (now image)) ⌝ }
+    ensures { λ _. ⌜ now (image .exit) ≡ sets (now (image .entry)) 16 (stateBytes port (take slots statuses)) ⌝ }
+    ensures { λ _. ⌜ length statuses ≡ 32 ⌝ }
+{
+    put_state(&mut image[16..], port, statuses, slots);
 }
 
 fn put_image(image: &mut [u8], slots: usize, fed: Fed, live: &[u32], cells: &[u32])
-    requires { ⌜ slots ≤ 32 ⌝ }
+    requires { ⌜ (slots ≤ 32) × (length (now live) ≡ 64 * slots) × (imageSize slots (length (now cells)) ≤ length (now image)) ⌝ }
+    ensures { λ _. ⌜ now (image .exit)
+        ≡ sets (now (image .entry)) 0 (imageOf (fed .consumed) (fed .written) (fed .port) (take slots (fed .statuses)) (now (live .entry)) (now (cells .entry))) ⌝ }
+    ensures { λ _. ⌜ length (fed .statuses) ≡ 32 ⌝ }
 {
     let port = fed.port;
     let statuses = fed.statuses;
     let words = 16 + image_size(slots);
     put_counts(&mut *image, fed.consumed, fed.written);
-    put_state(&mut *image, slots, port, statuses);
+    put_state_behind(&mut *image, slots, port, statuses);
     put_words_at(&mut *image, words, live);
     put_words_at(&mut *image, words + 256 * slots, cells);
 }
@@ -69,7 +84,13 @@ fn run_and_show(
     size: usize,
     answers: &mut [u8],
     image: &mut [u8],
-) -> u64 {
+) -> u64
+    requires { ⌜ (length (now live) ≡ 64 * atMost (setup .slots) 32) × (imageSize (atMost (setup .slots) 32) (length (now cells)) ≤ length (now image)) ⌝ }
+    ensures { λ r. ⌜ shown r (now (answers .exit)) (now (image .exit))
+        ≡ showing (atMost (setup .slots) 32)
+        (runsOn setup (now (defaults .entry)) size (held blankPort (lentOf (setup .slots) (replicate 32 down)) (now (live .entry)) (now (cells .entry))) (now (trace .entry)) (now (answers .entry)))
+        (now (image .entry)) ⌝ }
+{
     let fed = run_over(
         setup,
         &mut *live,
@@ -80,31 +101,35 @@ fn run_and_show(
         answers,
     );
     put_image(image, at_most(setup.slots, 32), fed, live, cells);
-    fed.number as u64
+    u64_of_u8(fed.number)
 }
 
 // Runs the trace on a card that was read.
 fn run_card(
     read: CardRead,
-    defaults: &[u32],
+    words: &[u32],
     trace: &[u8],
     size: usize,
     answers: &mut [u8],
     image: &mut [u8],
-) -> u64 {
+) -> u64
+    requires { ⌜ length (now words) ≡ 2048 ⌝ }
+    ensures { λ r. ⌜ shown r (now (answers .exit)) (now (image .exit))
+        ≡ runOnCard read (now (words .entry)) (now (trace .entry)) size (now (answers .entry)) (now (image .entry)) ⌝ }
+{
     let mut live = [0u32; 2048];
     let mut cells = [0u32; 4095];
     let setup = read.setup;
     let slots = at_most(setup.slots, 32);
-    let words = 64 * slots;
+    let of_slots = 64 * slots;
     let queue = at_most(read.queue, 4095);
     if image.len() < image_bytes(slots, queue) {
         return SHORT_IMAGE;
     }
     run_and_show(
         setup,
-        &mut live[0..words],
-        defaults,
+        &mut live[0..of_slots],
+        &words[0..of_slots],
         &mut cells[0..queue],
         trace,
         size,
@@ -123,13 +148,14 @@ pub extern "C" fn otsnebura_run(
     piece: usize,
     answers: &mut [u8],
     image: &mut [u8],
-) -> u64 {
-    let mut defaults = [0u32; 2048];
-    let read = card::read_card(card, &mut defaults);
+) -> u64
+    ensures { λ r. ⌜ shown r (now (answers .exit)) (now (image .exit))
+        ≡ runOf (now (card .entry)) (now (trace .entry)) piece (now (answers .entry)) (now (image .entry)) ⌝ }
+{
+    let mut words = [0u32; 2048];
+    let read = card::read_card(card, &mut words);
     if !read.ok {
         return BAD_CARD;
     }
-    let setup = read.setup;
-    let words = 64 * at_most(setup.slots, 32);
-    run_card(read, &defaults[0..words], trace, piece, answers, image)
+    run_card(read, &words, trace, piece, answers, image)
 }

@@ -1,23 +1,23 @@
 -- A call with bytes carried, as code runs it: the record that they begin, by a call of its own with nothing carried, and then a call on the rest of the
 -- input.
 -- Assumes nothing.
-use Prim.Native.Nat.{ℕ, _+_, _-_, _≤_, _<_}
-use mathlib.Core.Path.{_≡_, refl, ap, sym, _∙_}
+use Prim.Native.Nat.{ℕ, suc, _+_, _-_, _≤_, _<_}
+use mathlib.Core.Path.{_≡_, refl, ap, sym, _∙_, subst}
 use mathlib.Core.Bool.{true}
 use mathlib.Core.List.{List, [], _∷_, _++_}
 use native.Mathlib.Omega.{arith}
-use lib.ListN.{length, getD, take, drop, drop-of-length-le}
+use lib.ListN.{length, take, drop, drop-of-length-le}
 use lib.Seq.{drop-drop, drop-at}
 use lib.Dec.{ltb}
 use borrow.Author.Tests.{ltb-true}
 use Rattle.bits.proofs.Tests.{both-right}
-use Rattle.trace.specs.Format.{Bytes, sizeOf, known, body, pad, longest, begun}
+use Rattle.trace.specs.Format.{Bytes, known, body, longest, begun, next}
 use Rattle.trace.specs.Bench.{Ran}
-use Rattle.trace.specs.Feed.{Gathered as GatheredBytes, feedOpen}
+use Rattle.trace.specs.Feed.{kindAt, feedOpen, wholeSize}
 use Rattle.trace.specs.Lent.{Left, refusalOr31}
 use Rattle.trace.proofs.Records.{carrying, length-whole}
 use Rattle.trace.proofs.Refusing.{refusal-accepted, goes-on, feeds-open}
-use Rattle.trace.proofs.Loop.{Got, got-count, begins, turns, by-gather}
+use Rattle.trace.proofs.Loop.{Got, got-bytes, got-count, begins, turns, by-gather}
 use Rattle.trace.proofs.Rejoin.{complete-itself, one-record, rejoin}
 use Rattle.readiness.specs.declared.Status.{Status}
 use Rattle.readiness.specs.declared.Setup.{Setup}
@@ -29,7 +29,6 @@ use Rattle.demand3.specs.Held.{Held, held, opened, stateOf, carriedOf, heldOf}
 use Rattle.demand3.specs.Refusals.{soundCarried}
 use Rattle.records.specs.Device.{device}
 use Rattle.demand3.specs.Feeding.{bench, feeds}
-use Rattle.gather.specs.Gathering.{WholeSize}
 use Rattle.demand3.proofs.Refusals.{refusal-held}
 use Rattle.set_up.proofs.Stopping.{stops-none}
 use Rattle.feed.proofs.Accepting.{Accepted}
@@ -54,10 +53,10 @@ open-accepted setup defaults h e t s l c good =
     (opened-carried (h′ .port)) (facts-sound setup t good) refl)
 
 -- carried bytes are fewer than their record has
-pub begun-less : (c input : List ℕ) (size : ℕ) → begun c ≡ true → sizeOf (getD (c ++ input) 0 0) ≡ size → length c ≤ size
-unfolding begun body
-begun-less [] input size b e = omega arith
-begun-less (k ∷ rest) input size b e = omega (arith, ltb-true (length rest) (sizeOf k - 1) (both-right (known k) (ltb (length rest) (sizeOf k - 1)) b))
+pub begun-less : (c input : List ℕ) → begun c ≡ true → length c ≤ suc (body (kindAt (c ++ input) 0))
+unfolding begun
+begun-less [] input b = omega arith
+begun-less (k ∷ rest) input b = omega (arith, ltb-true (length rest) (body k) (both-right (known k) (ltb (length rest) (body k)) b))
 
 -- a call on no bytes
 no-bytes : (k : Setup) (defaults : List ℕ) (t : State) (room : List ℕ) → refusalOr31 (bench k defaults) (heldOf (carrying t [])) ≡ 0
@@ -73,7 +72,7 @@ pub record Joins (k : Setup) (defaults : List ℕ) (port : Port) (statuses : Lis
   pub inputBytes : Bytes input
   pub long : length (carriedOf port) ≡ port .«carried_len»
   pub some : 0 < size
-  pub whole : WholeSize (carriedOf port ++ input) (length answers) size
+  pub whole : size ≡ wholeSize (length answers) (next (carriedOf port ++ input))
 
 module _ {k : Setup} {defaults : List ℕ} {port : Port} {statuses : List Status} {live cells input answers : List ℕ} {size : ℕ} (j : Joins k defaults port statuses live cells input answers size) where
   -- what is lent, the state that it holds, and the call's trace
@@ -86,11 +85,10 @@ module _ {k : Setup} {defaults : List ℕ} {port : Port} {statuses : List Status
   abbrev trace : List ℕ
   trace = carriedOf port ++ input
 
-  abbrev pub front : GatheredBytes
-  front = record { runs = true; number = 0; bytes = pad longest (take size trace); count = size }
-
-  pub got : Got trace front × (8 ≤ length answers)
-  got = by-gather (device k defaults) s₀ (length answers) trace front (sym (j .whole .some (j .some))) .0 refl
+  pub got : Got trace size × (8 ≤ length answers)
+  got =
+      let g = by-gather (device k defaults) s₀ (length answers) trace .0 (subst (λ (n : ℕ). 0 < n) (j .whole) (j .some)) in
+      (subst (Got trace) (sym (j .whole)) (g .0), g .1)
 
   -- the record
   abbrev pub first : List ℕ
@@ -103,16 +101,16 @@ module _ {k : Setup} {defaults : List ℕ} {port : Port} {statuses : List Status
   room-first = got .1
 
   pub bytes-first : take size trace ≡ first
-  bytes-first = ap (λ (n : ℕ). take n trace) (size-first ∙ length-whole trace first (got .0 .is) .0) ∙ sym (got .0 .is .is)
+  bytes-first = sym (got-bytes trace size (got .0))
 
   pub few-first : size ≤ longest
-  few-first = got-count trace front (got .0) .few
+  few-first = got-count trace size (got .0) .few
 
   pub there-first : size ≤ length trace
   there-first = omega (arith, size-first, length-whole trace first (got .0 .is) .1)
 
   pub carried-less : port .«carried_len» ≤ size
-  carried-less = omega (arith, j .long, begun-less (carriedOf port) input size (j .accepted .begun) (j .whole .sized (j .some)))
+  carried-less = omega (arith, j .long, begun-less (carriedOf port) input (j .accepted .begun), size-first, length-whole trace first (got .0 .is) .0)
 
   -- what it does
   abbrev pub ran : Ran State
@@ -125,7 +123,7 @@ module _ {k : Setup} {defaults : List ℕ} {port : Port} {statuses : List Status
   good =
       turns (bench k defaults) (Good k defaults s₀) (good-keeps k defaults s₀) s₀ (carriedOf port) input answers answers s₀ 0 0
       (begins (bench k defaults) (Good k defaults s₀) (good-keeps k defaults s₀) s₀ (carriedOf port) input answers (j .accepted .good) (j .accepted .begun) (j .carriedBytes) (j .inputBytes))
-      front (got .0) ran refl (omega (arith, room-first)) .good
+      size (got .0) ran refl (omega (arith, room-first)) .good
 
   -- what is lent between the two calls
   abbrev pub between : Held

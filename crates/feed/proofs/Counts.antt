@@ -5,7 +5,7 @@ use mathlib.Core.Path.{_≡_, refl}
 use mathlib.Core.Bool.{false}
 use mathlib.Core.List.{List, [], _∷_, _++_}
 use native.Mathlib.Omega.{arith}
-use lib.ListN.{length, drop, length-append, length-drop}
+use lib.ListN.{length, length-append, length-drop}
 use Rattle.trace.specs.Bench.{Device, Bench}
 use Rattle.trace.specs.Feed.{Fed, feedOpen}
 use Rattle.trace.specs.Lent.{Left, refusalOr31, leaves, unchanged}

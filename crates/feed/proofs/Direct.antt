@@ -6,9 +6,9 @@ use mathlib.Core.Path.{_≡_, refl, sym, ap, _∙_, subst}
 use mathlib.Core.Bool.{Bool, true, false, not, _&&_, _||_, cond}
 use mathlib.Core.List.{List, [], _∷_}
 use lib.ListN.{set}
-use lib.Dec.{ltb}
 use lib.Seq.{paste, set-getD}
 use borrow.Author.Tests.{lt-ltb}
+use Rattle.registers.specs.declared.Kind.{Kind}
 use Rattle.times.specs.declared.Nanos.{Nanos}
 use Rattle.times.specs.Moments.{sumOf, leastOf}
 use Rattle.readiness.specs.declared.Cause.{Cause}
@@ -29,10 +29,10 @@ use Rattle.records.specs.declared.Record.the-variants.{Advance, Message}
 use Rattle.records.specs.declared.Reply.{Reply}
 use Rattle.records.specs.declared.Part.the-variants.{OneSlot, PortAlone}
 use Rattle.records.specs.declared.PortDone.{PortDone}
-use Rattle.records.specs.State.{State, Seat, state, statusAt, seat, kindOf}
-use Rattle.records.specs.PortRecords.{Front, front, withQueue}
+use Rattle.records.specs.State.{State, Seat, state, statusAt, seat, kindOfEntry, slotKind}
+use Rattle.readiness.specs.Fields.{withQueue}
+use Rattle.records.specs.PortRecords.{Front, front}
 use Rattle.records.specs.Answer.{Ran, answerBytes}
-use Rattle.records.specs.Run.{run}
 use Rattle.records.specs.Parts.{partAt, partOf, slotRun, portRun, cardRun}
 use Rattle.records.proofs.SoundFacts.{owed-test}
 use Rattle.records.proofs.Parted.{run-card}
@@ -70,8 +70,8 @@ owed-rests true true true e = sym e
 owed-rests true false true e = sym e
 
 -- ---- a slot of the card
-pub at-slot : (slots i : ℕ) → i < slots → partAt slots i ≡ OneSlot i
-at-slot slots i h = ap (λ (b : Bool). cond b (OneSlot i) PortAlone) (lt-ltb i slots h)
+pub at-slot : (setup : Setup) (slots i : ℕ) → setup .slots ≡ slots → i < slots → partAt setup i ≡ OneSlot i
+at-slot setup slots i e h = ap (λ (b : Bool). cond b (OneSlot i) PortAlone) (lt-ltb i (setup .slots) (subst (λ (n : ℕ). i < n) (sym e) h))
 
 module _ (k : Setup) (defaults : List ℕ) (dev : Dev) (statuses : List Status) (live cells : List ℕ) (r : Record) where
   abbrev present : State
@@ -83,15 +83,16 @@ module _ (k : Setup) (defaults : List ℕ) (dev : Dev) (statuses : List Status) 
       → Turned k defaults present r answers at t after
   turned-of t a x answers at after e = record { state = x .after; answer = e ∙ ap (λ (b : Reply). paste answers at (answerBytes b) 8) (x .reply) }
 
-  -- a record of one slot, with the slots, the bus number and the entry that code is told
-  pub as-told : (slots bus : ℕ) (entry : Slot) → k .slots ≡ slots → k .bus ≡ bus → (i : ℕ) → entryOf k i ≡ entry → (z : Seat)
-      → slotRun (k .slots) (kindOf k i) (k .bus) (entryOf k i) defaults i r z ≡ slotRun slots (kindOf k i) bus entry defaults i r z
-  as-told slots bus entry e b i n z = λ j. slotRun (e j) (kindOf k i) (b j) (n j) defaults i r z
+  -- a record of one slot, with the slots, the bus number and the entry that code is told, and the entry's kind
+  pub as-told : (slots bus : ℕ) (entry : Slot) (kind : Kind) → k .slots ≡ slots → k .bus ≡ bus → (i : ℕ) → entryOf k i ≡ entry → kind ≡ kindOfEntry entry → (z : Seat)
+      → slotRun (k .slots) (slotKind k i) (k .bus) (entryOf k i) defaults i r z ≡ slotRun slots kind bus entry defaults i r z
+  as-told slots bus entry kind e b i n c z =
+      (λ j. slotRun (e j) (kindOfEntry (n j)) (b j) (n j) defaults i r z) ∙ ap (λ (x : Kind). slotRun slots x bus entry defaults i r z) (sym c)
 
   module _ (sound : Sound k present) (fits : Fitting k defaults present) where
     -- a record that touches one slot, and leaves its status and the root port
-    pub still-runs : (i : ℕ) → partOf (k .slots) r ≡ OneSlot i → (a : Reply) (live′ : List ℕ)
-        → _≡_ {A = Ran Seat} (slotRun (k .slots) (kindOf k i) (k .bus) (entryOf k i) defaults i r (seat dev (statusAt statuses i) live cells))
+    pub still-runs : (i : ℕ) → partOf k r ≡ OneSlot i → (a : Reply) (live′ : List ℕ)
+        → _≡_ {A = Ran Seat} (slotRun (k .slots) (slotKind k i) (k .bus) (entryOf k i) defaults i r (seat dev (statusAt statuses i) live cells))
         (record { after = seat dev (statusAt statuses i) live′ cells; reply = a })
         → Runs k defaults dev statuses live cells r (state dev statuses live′ cells) a
     still-runs i o a live′ y =
@@ -103,16 +104,16 @@ module _ (k : Setup) (defaults : List ℕ) (dev : Dev) (statuses : List Status) 
         → _≡_ {A = Ran Front} (portRun (k .«port_id») (Message (Frs id reason)) (front dev cells)) (record { after = front (withQueue dev q) cells′; reply = a })
         → Runs k defaults dev statuses live cells r (state (withQueue dev q) statuses live cells′) a
     frs-runs id reason e q a cells′ y =
-        port-runs k defaults dev statuses live cells r sound fits (ap (partOf (k .slots)) e) (record { dev = withQueue dev q; reply = a }) cells′
+        port-runs k defaults dev statuses live cells r sound fits (ap (partOf k) e) (record { dev = withQueue dev q; reply = a }) cells′
         (sym y ∙ ap (λ (z : Record). portRun (k .«port_id») z (front dev cells)) (sym e))
 
     -- an advance to a moment before which no slot becomes Ready
     pub clock-runs : (bound : Nanos) → ReadyFrom bound statuses → (by : Nanos) → r ≡ Advance by → sumOf (dev .clock) by .0 < bound .0 → (x : PortDone)
-        → (due (sumOf (dev .clock) by) statuses ≡ [] → (dev .owed && allReady statuses) ≡ false
+        → (due (sumOf (dev .clock) by) statuses ≡ [] → (dev .owed && allReady k statuses) ≡ false
         → cardRun k defaults (Advance by) present ≡ record { after = state (x .dev) statuses live cells; reply = x .reply })
         → Runs k defaults dev statuses live cells r (state (x .dev) statuses live cells) (x .reply)
     clock-runs bound b by e h x c =
-        let y = run-card k defaults present r (ap (partOf (k .slots)) e)
+        let y = run-card k defaults present r (ap (partOf k) e)
         ∙ ap (λ (z : Record). cardRun k defaults z present) e
-        ∙ c (bound-quiet bound (sumOf (dev .clock) by) statuses b h) (owed-rests (dev .owed) (dev .link) (allReady statuses) (owed-test sound)) in
+        ∙ c (bound-quiet bound (sumOf (dev .clock) by) statuses b h) (owed-rests (dev .owed) (dev .link) (allReady k statuses) (owed-test sound)) in
         record { after = sym (ap (λ (z : Ran State). z .after) y); reply = sym (ap (λ (z : Ran State). z .reply) y) }

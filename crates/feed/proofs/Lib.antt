@@ -4,6 +4,5 @@ pub mod Accepting
 pub mod Looping
 pub mod Counts
 pub mod Carried
-pub mod Ends
 pub mod Direct
 pub mod NoRecord

@@ -4,12 +4,11 @@ use Prim.Native.Nat.{ℕ, zero, suc, _+_, _-_, _<_}
 use native.Mathlib.Omega.{arith}
 use native.Mathlib.Nat.{sub-zero}
 use mathlib.Core.Path.{_≡_, refl, sym, ap, _∙_}
-use mathlib.Core.Bool.{false}
 use mathlib.Core.List.{List, _++_}
 use lib.ListN.{length, take}
 use lib.Dec.{eqb}
 use Rattle.trace.specs.Format.{Bytes, pad, next}
-use Rattle.trace.specs.Feed.{Gathered as GatheredBytes, gathered}
+use Rattle.trace.specs.Feed.{wholeSize, endNumber, endCount}
 use Rattle.trace.specs.Lent.{Left, refusalOr31}
 use Rattle.trace.proofs.Refusing.{goes-on, feeds-no}
 use Rattle.trace.proofs.Rejoin.{same-view}
@@ -39,27 +38,26 @@ module _ (setup : Setup) (defaults : List ℕ) (h : Held) (input room : List ℕ
   abbrev rest : List ℕ
   rest = carriedOf (h .port) ++ input
 
-  abbrev found : GatheredBytes
-  found = gathered rest (length room) (next rest)
-
   -- one that is not refused and completes no record
-  completes-none : Typed setup h input → refusalOr31 (bench setup defaults) h ≡ 0 → found .runs ≡ false → leaves (carriesOn (h .port) found) ≡ feeds setup defaults h input room
+  completes-none : Typed setup h input → refusalOr31 (bench setup defaults) h ≡ 0 → wholeSize (length room) (next rest) ≡ 0 → leaves (carriesOn (h .port) input) ≡ feeds setup defaults h input room
   completes-none t e q =
       let a = accepted setup defaults h e (t .bus) (t .portId) in
       let p = h .port in
       let v =
       starts setup defaults (p .carried) (p .«carried_len») input room (stateOf h) (p .dev) (h .statuses) (h .live) (h .cells) refl
       (a .fits .perSlot) (a .short) (t .sixteen) (a .good) (a .begun) (t .carried) (t .fed) in
-      let z : found .count - p .«carried_len» ≡ 0 + found .count - p .«carried_len» = omega arith in
+      let n = endNumber (next rest) in
+      let m = endCount rest (next rest) in
+      let z : m - p .«carried_len» ≡ 0 + m - p .«carried_len» = omega arith in
       _∙_ {A = Left Held}
       (λ i. record {
-        number = found .number;
+        number = n;
         consumed = z i;
         written = 0;
-        held = held (record { dev = p .dev; carried = pad 16 (take (found .count) (found .bytes)); «carried_len» = found .count; broken = eqb (found .number) 31 }) (h .statuses) (h .live) (h .cells);
+        held = held (record { dev = p .dev; carried = pad 16 (take m rest); «carried_len» = m; broken = eqb n 31 }) (h .statuses) (h .live) (h .cells);
         answers = room;
       })
-      (ended v found (ends v found (ap (λ (n : ℕ). gathered rest n (next rest)) (sym (sub-zero (length room)))) q) h refl refl e)
+      (ended v n m (ends v (ap (λ (r : ℕ). wholeSize r (next rest)) (sub-zero (length room)) ∙ q)) h refl refl e)
 
   -- A CALL THAT RUNS NO RECORD
   pub runs-none : Typed setup h input → (o : Opening) → Opens setup defaults h input (length room) o → o .size ≡ 0 → (r : FedPort) → Rests (o .number) (h .port) input r
@@ -67,7 +65,7 @@ module _ (setup : Setup) (defaults : List ℕ) (h : Held) (input room : List ℕ
   runs-none t o p s r x = by (o .number) refl
     where
       by : (n : ℕ) → o .number ≡ n → leaves r ≡ feeds setup defaults h input room
-      by zero e = ap leaves (x .carries e (length room) (p .first e .none s)) ∙ completes-none t (sym (p .number) ∙ e) (p .first e .none s)
+      by zero e = ap leaves (x .carries e) ∙ completes-none t (sym (p .number) ∙ e) (sym (p .first e) ∙ s)
       by (suc n) e =
           let f : o .number ≡ 0 → ⊥ = λ z. absurd (omega (arith, e, z)) in
           ap leaves (x .refused f) ∙ feeds-no (bench setup defaults) h input room (o .number) (p .number) f

@@ -15,7 +15,7 @@ use Rattle.records.specs.declared.Reply.{Reply}
 use Rattle.records.specs.declared.Part.the-variants.{OneSlot, PortAlone, WholeCard}
 use Rattle.records.specs.declared.SlotDone.{SlotDone}
 use Rattle.records.specs.declared.PortDone.{PortDone}
-use Rattle.records.specs.State.{State, state, statusAt, seat, kindOf}
+use Rattle.records.specs.State.{State, state, statusAt, seat, slotKind}
 use Rattle.records.specs.Decode.{decode}
 use Rattle.records.specs.Answer.{Ran, answerBytes}
 use Rattle.records.specs.PortRecords.{front}
@@ -48,21 +48,21 @@ module _ (k : Setup) (defaults : List ℕ) (dev : Dev) (statuses : List Status) 
   runs-of t a e = record { after = ap (λ (x : Ran State). x .after) e; reply = ap (λ (x : Ran State). x .reply) e }
 
   -- the whole card
-  pub card-runs : partOf (k .slots) r ≡ WholeCard → (x : PortDone) (statuses′ : List Status) (live′ cells′ : List ℕ)
+  pub card-runs : partOf k r ≡ WholeCard → (x : PortDone) (statuses′ : List Status) (live′ cells′ : List ℕ)
       → cardRan x statuses′ live′ cells′ ≡ cardRun k defaults r present
       → Runs (state (x .dev) statuses′ live′ cells′) (x .reply)
   card-runs q x statuses′ live′ cells′ e = runs-of _ _ (e ∙ sym (run-card k defaults present r q))
 
   module _ (sound : Sound k present) (fits : Fitting k defaults present) where
     -- the port alone
-    pub port-runs : partOf (k .slots) r ≡ PortAlone → (x : PortDone) (cells′ : List ℕ) → portRan x cells′ ≡ portRun (k .«port_id») r (front dev cells)
+    pub port-runs : partOf k r ≡ PortAlone → (x : PortDone) (cells′ : List ℕ) → portRan x cells′ ≡ portRun (k .«port_id») r (front dev cells)
         → Runs (state (x .dev) statuses live cells′) (x .reply)
     port-runs q x cells′ e =
         runs-of _ _ (ap (portPut present) e ∙ sym (run-port k defaults present sound fits r q))
 
     -- one slot
-    pub slot-runs : (i : ℕ) → partOf (k .slots) r ≡ OneSlot i → (x : SlotDone) (live′ cells′ : List ℕ)
-        → slotRan x live′ cells′ ≡ slotRun (k .slots) (kindOf k i) (k .bus) (entryOf k i) defaults i r (seat dev (statusAt statuses i) live cells)
+    pub slot-runs : (i : ℕ) → partOf k r ≡ OneSlot i → (x : SlotDone) (live′ cells′ : List ℕ)
+        → slotRan x live′ cells′ ≡ slotRun (k .slots) (slotKind k i) (k .bus) (entryOf k i) defaults i r (seat dev (statusAt statuses i) live cells)
         → Runs (state (x .dev) (set statuses i (x .status)) live′ cells′) (x .reply)
     slot-runs i q x live′ cells′ e =
         runs-of _ _ (ap (slotPut present i) e ∙ sym (run-slot k defaults present sound fits r i q))

@@ -17,7 +17,6 @@ use Rattle.records.specs.Answer.{answerBytes}
 use Rattle.records.specs.Run.{run}
 use Rattle.records.specs.Sound.{Sound, Fitting}
 use Rattle.records.specs.Parts.{partOf}
-use Rattle.gather.specs.Gathering.{recordSize}
 use Rattle.feed.specs.declared.Turn.{Turn}
 use Rattle.feed.specs.declared.Turn.the-variants as turn
 
@@ -26,11 +25,10 @@ abbrev pub Takes : (slots : ℕ) → (earliest clock : Nanos) → (link : Bool) 
 Takes slots earliest clock link r (turn.Read q) = (r ≡ variants.Read q) × (q .slot < slots)
 Takes slots earliest clock link r (turn.Write q value) = (r ≡ variants.Write q value) × (q .slot < slots)
 Takes slots earliest clock link r (turn.Hardware i word mask) = (r ≡ variants.HardwareSet i word mask) × (i < slots)
-Takes slots earliest clock link r turn.Port = (partOf slots r ≡ PortAlone) × (0 < recordSize r)
+Takes slots earliest clock link r turn.Port = (setup : Setup) → setup .slots ≡ slots → partOf setup r ≡ PortAlone
 Takes slots earliest clock link r (turn.Frs f) = (r ≡ variants.Message (message.Frs (f .id) (f .reason))) × (link ≡ true)
 Takes slots earliest clock link r (turn.Clock by) = (r ≡ variants.Advance by) × (sumOf clock by .0 < earliest .0)
-Takes slots earliest clock link r turn.Card = (partOf slots r ≡ WholeCard) × (0 < recordSize r)
-Takes slots earliest clock link r turn.End = r ≡ variants.NoKind
+Takes slots earliest clock link r turn.Card = (setup : Setup) → setup .slots ≡ slots → partOf setup r ≡ WholeCard
 
 -- what a record's turn leaves is what its run leaves, and the answer's 8 bytes stand in the slice for answers, from `at` on
 pub record Turned (setup : Setup) (defaults : List ℕ) (s : State) (r : Record) (answers : List ℕ) (at : ℕ) (t : State) (after : List ℕ) : Type 0 where

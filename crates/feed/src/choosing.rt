@@ -1,5 +1,4 @@
 // How a record takes its turn: by the part of the state that it touches, with the commonest records apart.
-ghost use mathlib.Core.Path.{_≡_};
 ghost use mathlib.Core.Bool.{Bool};
 ghost use mathlib.Core.List.{List};
 ghost use lib.ListN.{set};
@@ -9,7 +8,6 @@ ghost use Prim.Native.Nat.{ℕ, _<_};
 ghost use Rattle.times.specs.declared.Nanos.{Nanos};
 ghost use Rattle.records.specs.declared.Record.the-variants as variants;
 ghost use Rattle.feed.specs.Turns.{Takes};
-ghost use Rattle.gather.specs.Gathering.{recordSize};
 use crate::Turn;
 use frs_queue::Frs;
 use messages::Message;
@@ -100,7 +98,7 @@ pub fn turn_of(slots: usize, earliest: Nanos, clock: Nanos, link: bool, record: 
         Record::Control(_) => Turn::Port,
         Record::HardwareSet(slot, word, mask) => of_hardware(slots, slot, word, mask),
         Record::ReadBits => Turn::Port,
-        Record::NoKind => Turn::End,
+        Record::NoKind => Turn::Port,
     }
 }
 
@@ -113,27 +111,5 @@ pub fn lowered(earliest: Nanos, status: Status) -> Nanos
         Phase::Down => earliest,
         Phase::Ready => earliest,
         Phase::Pending(_, ready) => times::least(ready, earliest),
-    }
-}
-
-// How many bytes a record has, its byte of kind with them.
-pub fn record_size(record: Record) -> usize
-    ensures { λ r. ⌜ r ≡ recordSize «record» ⌝ }
-{
-    match record {
-        Record::Advance(_) => 5,
-        Record::Read(_) => 4,
-        Record::Write(_, _) => 8,
-        Record::Message(_) => 17,
-        Record::LinkUp => 1,
-        Record::LinkDown => 1,
-        Record::ColdReset => 1,
-        Record::ReadQueue => 1,
-        Record::RemoveOldest => 1,
-        Record::ClearBits(_) => 2,
-        Record::Control(_) => 2,
-        Record::HardwareSet(_, _, _) => 7,
-        Record::ReadBits => 1,
-        Record::NoKind => 0,
     }
 }

@@ -3,29 +3,22 @@ mod choosing; // how a record takes its turn
 mod turning; // a record's turn, and its answer
 
 ghost use mathlib.Core.Path.{_≡_};
-ghost use mathlib.Core.Bool.{false};
 ghost use mathlib.Core.List.{List, _++_};
 ghost use Prim.Native.Nat.{ℕ, _+_, _-_, _≤_, _<_};
-ghost use lib.Dec.{eqb};
-ghost use lib.ListN.{length, take};
-ghost use Rattle.trace.specs.Format.{pad, next};
-ghost use Rattle.trace.specs.Feed.{gathered};
+ghost use lib.ListN.{length};
+ghost use Rattle.trace.specs.Format.{next};
+ghost use Rattle.trace.specs.Feed.{wholeSize};
 ghost use Rattle.trace.specs.Lent.{refusalOr31};
 ghost use Rattle.readiness.specs.Phases.{statusesIn};
 ghost use Rattle.demand3.specs.Held.{held, lentOf, carriedOf, opened};
-ghost use Rattle.gather.specs.Gathering.{WholeSize};
 ghost use Rattle.registers.specs.Rows.{masks};
 ghost use Rattle.demand3.specs.Feeding.{bench, feeds};
 ghost use Rattle.feed.specs.Left.{left, leftInPlace, carriesOn, Opens, Rests};
-use choosing::record_size;
 use choosing::turn_of;
 use frs_queue::Frs;
-use gather::Gathered;
 use gather::gathering::carried_bytes;
-use gather::gathering::copy;
 use gather::gathering::ending;
-use gather::gathering::gather;
-use gather::gathering::keep;
+use gather::gathering::first_bytes;
 use gather::gathering::next_record;
 use gather::gathering::whole_size;
 use readiness::Dev;
@@ -85,117 +78,6 @@ pub enum Turn {
     Clock(Nanos),
     // The whole card.
     Card,
-    // None: the call ends.
-    End,
-}
-
-// The call's end: the first bytes of what was gathered are carried.
-fn call_end(dev: Dev, g: Gathered, consumed: usize, written: usize) -> FedPort
-    requires { ⌜ g .count ≤ 16 ⌝ }
-    ensures { λ r. ⌜ r ≡ record { number = g .number; consumed = consumed; written = written; port = record { dev = dev; carried = pad 16 (take (g .count) (g .bytes)); «carried_len» = g .count; broken = eqb (g .number) 31 } } ⌝ }
-{
-    let bytes = g.bytes;
-    FedPort {
-        number: g.number,
-        consumed: consumed,
-        written: written,
-        port: keep(dev, bytes, g.count, g.number == 31),
-    }
-}
-
-// A call that is not refused, with nothing carried: each whole record runs in its turn, until the input ends, a kind is unknown or the room is
-// too small.
-fn run_input(
-    table: &Masks,
-    setup: Setup,
-    start: Dev,
-    phases: &mut [u64],
-    live: &mut [u32],
-    defaults: &[u32],
-    cells: &mut [u32],
-    input: &[u8],
-    answers: &mut [u8],
-) -> FedPort
-    requires { ⌜ now table ≡ masks ⌝ }
-    requires { ⌜ refusalOr31 (bench setup (now defaults)) (held (opened start) (statusesIn (now phases)) (now live) (now cells)) ≡ 0 ⌝ }
-    ensures { λ r. ⌜ leftInPlace r (now (phases .exit)) (now (live .exit)) (now (cells .exit)) (now (answers .exit)) ≡ feeds setup (now (defaults .entry)) (held (opened start) (statusesIn (now (phases .entry))) (now (live .entry)) (now (cells .entry))) (now (input .entry)) (now (answers .entry)) ⌝ }
-{
-    let mut dev = start;
-    let mut earliest = times::nanos_of(0);
-    let mut at: usize = 0;
-    let mut w: usize = 0;
-    loop {
-        let room = answers.len() - w;
-        let record = next_record(input, at, room);
-        let turn = turn_of(setup.slots, earliest, dev.clock, dev.link, record);
-        let next = at + record_size(record);
-        let more = w + 8;
-        match turn {
-            Turn::Read(q) => {
-                read_turn(setup.slots, dev, phases, live, q, answers, w);
-            }
-            Turn::Write(q, value) => {
-                let slot = q.slot;
-                let entry = setup.entries[slot];
-                let x = write_turn(
-                    table,
-                    setup.slots,
-                    setup.bus,
-                    entry,
-                    dev,
-                    earliest,
-                    phases,
-                    live,
-                    defaults,
-                    cells,
-                    q,
-                    value,
-                    answers,
-                    w,
-                );
-                dev = x.dev;
-                earliest = x.earliest;
-            }
-            Turn::Hardware(slot, word, mask) => {
-                hardware_turn(
-                    table,
-                    setup.slots,
-                    phases,
-                    live,
-                    slot,
-                    word,
-                    mask,
-                    answers,
-                    w,
-                );
-            }
-            Turn::Port => dev = port_turn(setup.port_id, dev, record, cells, answers, w),
-            Turn::Frs(frs) => dev = frs_turn(dev, cells, frs, answers, w),
-            Turn::Clock(by) => dev = clock_turn(dev, by, answers, w),
-            Turn::Card => {
-                let x = card_turn(
-                    table,
-                    setup,
-                    dev,
-                    phases,
-                    record,
-                    live,
-                    defaults,
-                    cells,
-                    answers,
-                    w,
-                );
-                dev = x.dev;
-                earliest = x.earliest;
-            }
-            Turn::End => {
-                let g = gather(input, 0, input, at, room);
-                return call_end(dev, g, at + g.count, w);
-            }
-        }
-        at = next;
-        w = more;
-    }
 }
 
 // How far n goes past m.
@@ -205,10 +87,10 @@ fn past(n: usize, m: usize) -> usize
     if m <= n { n - m } else { 0 }
 }
 
-// A call that completes no record: what is consumed of the input joins the carried bytes.
+// THE END OF A CALL, which completes no record more: what is consumed of the input joins the carried bytes.
 fn carry_on(port: Port, input: &[u8]) -> FedPort
     requires { ⌜ port .«carried_len» ≤ 16 ⌝ }
-    ensures { λ r. ⌜ ((room : ℕ) → gathered (carriedOf port ++ now (input .entry)) room (next (carriedOf port ++ now (input .entry))) .runs ≡ false → r ≡ carriesOn port (gathered (carriedOf port ++ now (input .entry)) room (next (carriedOf port ++ now (input .entry))))) ⌝ }
+    ensures { λ r. ⌜ r ≡ carriesOn port (now (input .entry)) ⌝ }
 {
     let dev = port.dev;
     let carried = port.carried;
@@ -241,6 +123,116 @@ fn after_first(consumed: usize, written: usize, rest: FedPort) -> FedPort
     }
 }
 
+// A port with nothing carried.
+fn nothing_carried(dev: Dev) -> Port
+    ensures { λ r. ⌜ r ≡ opened dev ⌝ }
+{
+    Port {
+        dev: dev,
+        carried: [0; 16],
+        carried_len: 0,
+        broken: false,
+    }
+}
+
+// A call that is not refused, with nothing carried: each whole record runs in its turn, until the input ends, a kind is unknown or the room is
+// too small.
+fn run_input(
+    table: &Masks,
+    setup: Setup,
+    start: Dev,
+    phases: &mut [u64],
+    live: &mut [u32],
+    defaults: &[u32],
+    cells: &mut [u32],
+    input: &[u8],
+    answers: &mut [u8],
+) -> FedPort
+    requires { ⌜ now table ≡ masks ⌝ }
+    requires { ⌜ refusalOr31 (bench setup (now defaults)) (held (opened start) (statusesIn (now phases)) (now live) (now cells)) ≡ 0 ⌝ }
+    ensures { λ r. ⌜ leftInPlace r (now (phases .exit)) (now (live .exit)) (now (cells .exit)) (now (answers .exit)) ≡ feeds setup (now (defaults .entry)) (held (opened start) (statusesIn (now (phases .entry))) (now (live .entry)) (now (cells .entry))) (now (input .entry)) (now (answers .entry)) ⌝ }
+{
+    let mut dev = start;
+    let mut earliest = times::nanos_of(0);
+    let mut at: usize = 0;
+    let mut w: usize = 0;
+    loop {
+        let found = next_record(input, at, answers.len() - w);
+        if found.size == 0 {
+            return after_first(at, w, carry_on(nothing_carried(dev), &input[at..]));
+        }
+        let record = found.record;
+        let turn = turn_of(setup.slots, earliest, dev.clock, dev.link, record);
+        let next = at + found.size;
+        let more = w + 8;
+        match turn {
+            Turn::Read(q) => {
+                let slot = q.slot;
+                let entry = setup.entries[slot];
+                read_turn(setup.slots, entry, dev, phases, live, q, answers, w);
+            }
+            Turn::Write(q, value) => {
+                let slot = q.slot;
+                let entry = setup.entries[slot];
+                let x = write_turn(
+                    table,
+                    setup.slots,
+                    setup.bus,
+                    entry,
+                    dev,
+                    earliest,
+                    phases,
+                    live,
+                    defaults,
+                    cells,
+                    q,
+                    value,
+                    answers,
+                    w,
+                );
+                dev = x.dev;
+                earliest = x.earliest;
+            }
+            Turn::Hardware(slot, word, mask) => {
+                let entry = setup.entries[slot];
+                hardware_turn(
+                    table,
+                    setup.slots,
+                    entry,
+                    phases,
+                    live,
+                    slot,
+                    word,
+                    mask,
+                    answers,
+                    w,
+                );
+            }
+            Turn::Port => dev = port_turn(setup.port_id, dev, record, cells, answers, w),
+            Turn::Frs(frs) => dev = frs_turn(dev, cells, frs, answers, w),
+            Turn::Clock(by) => dev = clock_turn(dev, by, answers, w),
+            Turn::Card => {
+                let x = card_turn(
+                    table,
+                    setup,
+                    dev,
+                    phases,
+                    record,
+                    live,
+                    defaults,
+                    cells,
+                    answers,
+                    w,
+                );
+                dev = x.dev;
+                earliest = x.earliest;
+            }
+        }
+        at = next;
+        w = more;
+    }
+}
+
 // A call that is not refused, with bytes carried that begin a record of `size` bytes, which is whole now: that record, and then the rest of the input.
 fn run_joined(
     table: &Masks,
@@ -256,13 +248,13 @@ fn run_joined(
 ) -> FedPort
     requires { ⌜ now table ≡ masks ⌝ }
     requires { ⌜ refusalOr31 (bench setup (now defaults)) (held port (statusesIn (now phases)) (now live) (now cells)) ≡ 0 ⌝ }
-    requires { ⌜ (0 < size) × WholeSize (carriedOf port ++ now input) (length (now answers)) size ⌝ }
+    requires { ⌜ (0 < size) × (size ≡ wholeSize (length (now answers)) (next (carriedOf port ++ now input))) ⌝ }
     ensures { λ r. ⌜ leftInPlace r (now (phases .exit)) (now (live .exit)) (now (cells .exit)) (now (answers .exit)) ≡ feeds setup (now (defaults .entry)) (held port (statusesIn (now (phases .entry))) (now (live .entry)) (now (cells .entry))) (now (input .entry)) (now (answers .entry)) ⌝ }
 {
     let dev = port.dev;
     let carried = port.carried;
     let len = port.carried_len;
-    let bytes = copy(&carried, len, input, 0, size);
+    let bytes = first_bytes(&carried, len, input, size);
     let missing = size - len;
     let first = run_input(
         table,
@@ -313,7 +305,7 @@ fn run_records(
 ) -> FedPort
     requires { ⌜ now table ≡ masks ⌝ }
     requires { ⌜ refusalOr31 (bench setup (now defaults)) (held port (statusesIn (now phases)) (now live) (now cells)) ≡ 0 ⌝ }
-    requires { ⌜ (0 < size) × WholeSize (carriedOf port ++ now input) (length (now answers)) size ⌝ }
+    requires { ⌜ (0 < size) × (size ≡ wholeSize (length (now answers)) (next (carriedOf port ++ now input))) ⌝ }
     ensures { λ r. ⌜ leftInPlace r (now (phases .exit)) (now (live .exit)) (now (cells .exit)) (now (answers .exit)) ≡ feeds setup (now (defaults .entry)) (held port (statusesIn (now (phases .entry))) (now (live .entry)) (now (cells .entry))) (now (input .entry)) (now (answers .entry)) ⌝ }
 {
     if port.carried_len == 0 {
@@ -368,7 +360,7 @@ fn opens(
     let carried = port.carried;
     Opening {
         number: 0,
-        size: whole_size(&carried, len, input, 0, room),
+        size: whole_size(&carried, len, input, room),
     }
 }
 

@@ -26,6 +26,7 @@ use crate::choosing::lowered;
 use device::answering::answer_bytes;
 use device::card::advance_alone;
 use device::card::run_card;
+use device::kinds::kind_of_entry;
 use device::port::receive_frs;
 use device::port::run_port;
 use device::requests::run_hardware;
@@ -39,7 +40,6 @@ use readiness::Slot;
 use records::Record;
 use records::Reply;
 use records::Request;
-use registers::Kind;
 use registers::Masks;
 use settle::phases::put_status;
 use settle::phases::status_at;
@@ -62,6 +62,7 @@ fn answer(answers: &mut [u8], at: usize, reply: Reply)
 // A configuration read of a slot of the card.
 pub fn read_turn(
     slots: usize,
+    entry: Slot,
     dev: Dev,
     phases: &[u64],
     live: &[u32],
@@ -70,17 +71,14 @@ pub fn read_turn(
     at: usize,
 )
     requires { ⌜ (q .slot < length (statusesIn (now phases))) × (64 * slots ≤ length (now live)) × (at + 8 ≤ length (now answers)) ⌝ }
-    ensures { λ _. ⌜ ((setup : Setup) (defaults cells : List ℕ) → setup .slots ≡ slots → q .slot < slots
+    ensures { λ _. ⌜ ((setup : Setup) (defaults cells : List ℕ) → setup .slots ≡ slots → entryOf setup (q .slot) ≡ entry → q .slot < slots
         → TakesTurn setup defaults (state dev (statusesIn (now (phases .entry))) (now (live .entry)) cells) (variants.Read q) (now (answers .entry)) at
         (state dev (statusesIn (now (phases .entry))) (now (live .entry)) cells) (now (answers .exit))) ⌝ }
 {
     let slot = q.slot;
     let status = status_at(phases, slot);
-    answer(
-        answers,
-        at,
-        run_read(slots, Kind::Endpoint, dev, status, live, q),
-    );
+    let kind = kind_of_entry(entry);
+    answer(answers, at, run_read(slots, kind, dev, status, live, q));
 }
 
 // A configuration write of a slot of the card.
@@ -109,10 +107,11 @@ pub fn write_turn(
 {
     let slot = q.slot;
     let status = status_at(phases, slot);
+    let kind = kind_of_entry(entry);
     let x = run_write(
         table,
         slots,
-        Kind::Endpoint,
+        kind,
         bus,
         entry,
         slot,
@@ -138,6 +137,7 @@ pub fn write_turn(
 pub fn hardware_turn(
     table: &Masks,
     slots: usize,
+    entry: Slot,
     phases: &[u64],
     live: &mut [u32],
     slot: usize,
@@ -148,15 +148,16 @@ pub fn hardware_turn(
 )
     requires { ⌜ now table ≡ masks ⌝ }
     requires { ⌜ (slot < length (statusesIn (now phases))) × (64 * slots ≤ length (now live)) × (at + 8 ≤ length (now answers)) ⌝ }
-    ensures { λ _. ⌜ ((setup : Setup) (defaults : List ℕ) (dev : Dev) (cells : List ℕ) → setup .slots ≡ slots → slot < slots
+    ensures { λ _. ⌜ ((setup : Setup) (defaults : List ℕ) (dev : Dev) (cells : List ℕ) → setup .slots ≡ slots → entryOf setup slot ≡ entry → slot < slots
         → TakesTurn setup defaults (state dev (statusesIn (now (phases .entry))) (now (live .entry)) cells) (variants.HardwareSet slot word mask) (now (answers .entry)) at
         (state dev (statusesIn (now (phases .entry))) (now (live .exit)) cells) (now (answers .exit))) ⌝ }
 {
     let status = status_at(phases, slot);
+    let kind = kind_of_entry(entry);
     answer(
         answers,
         at,
-        run_hardware(table, slots, Kind::Endpoint, status, live, slot, word, mask),
+        run_hardware(table, slots, kind, status, live, slot, word, mask),
     );
 }
 
@@ -170,7 +171,7 @@ pub fn port_turn(
     at: usize,
 ) -> Dev
     requires { ⌜ at + 8 ≤ length (now answers) ⌝ }
-    ensures { λ r. ⌜ ((setup : Setup) (defaults : List ℕ) (statuses : List Status) (live : List ℕ) → setup .«port_id» ≡ «port_id» → partOf (setup .slots) «record» ≡ PortAlone
+    ensures { λ r. ⌜ ((setup : Setup) (defaults : List ℕ) (statuses : List Status) (live : List ℕ) → setup .«port_id» ≡ «port_id» → partOf setup «record» ≡ PortAlone
         → TakesTurn setup defaults (state dev statuses live (now (cells .entry))) «record» (now (answers .entry)) at
         (state r statuses live (now (cells .exit))) (now (answers .exit))) ⌝ }
 {
@@ -220,8 +221,8 @@ pub fn card_turn(
     at: usize,
 ) -> Moved
     requires { ⌜ now table ≡ masks ⌝ }
-    requires { ⌜ (setup .slots ≤ 32) × (length (statusesIn (now phases)) ≡ setup .slots) × (at + 8 ≤ length (now answers)) ⌝ }
-    ensures { λ r. ⌜ (partOf (setup .slots) «record» ≡ WholeCard
+    requires { ⌜ (setup .slots ≤ 32) × (length (statusesIn (now phases)) ≡ setup .slots) × (length (now live) ≤ setup .slots * 64) × (at + 8 ≤ length (now answers)) ⌝ }
+    ensures { λ r. ⌜ (partOf setup «record» ≡ WholeCard
         → TakesTurn setup (now (defaults .entry)) (state dev (statusesIn (now (phases .entry))) (now (live .entry)) (now (cells .entry))) «record» (now (answers .entry)) at
         (state (r .dev) (statusesIn (now (phases .exit))) (now (live .exit)) (now (cells .exit))) (now (answers .exit))) ⌝ }
     ensures { λ r. ⌜ ReadyFrom (r .earliest) (statusesIn (now (phases .exit))) ⌝ }

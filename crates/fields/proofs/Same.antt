@@ -1,7 +1,7 @@
 -- Two lists of bytes compared from the front on.
 -- Assumes nothing.
 use mathlib.Core.Path.{_≡_, refl, sym, ap, ap₂, _∙_}
-use mathlib.Core.Bool.{Bool, true, false, _&&_}
+use mathlib.Core.Bool.{Bool, true, false, _&&_, and-false}
 use mathlib.Core.List.{List, [], _∷_}
 use Prim.Native.Nat.{ℕ, suc, _+_, _≤_, _<_}
 use native.Mathlib.Numerals.{add-one}
@@ -12,16 +12,12 @@ use lib.Seq.{drop-cons}
 use borrow.Author.Tests.{eq-eqb, ne-eqb}
 use Rattle.fields.specs.Text.{same}
 
-and-none : (a : Bool) → (a && false) ≡ false
-and-none true = refl
-and-none false = refl
-
 pub same-lengths : (a b : List ℕ) → (length a ≡ length b → ⊥) → same a b ≡ false
 unfolding same
 same-lengths [] [] f = absurd (f refl)
 same-lengths [] (y ∷ b) f = refl
 same-lengths (x ∷ a) [] f = refl
-same-lengths (x ∷ a) (y ∷ b) f = ap (λ (t : Bool). eqb x y && t) (same-lengths a b (λ e. f (ap suc e))) ∙ and-none (eqb x y)
+same-lengths (x ∷ a) (y ∷ b) f = ap (λ (t : Bool). eqb x y && t) (same-lengths a b (λ e. f (ap suc e))) ∙ and-false (eqb x y)
 
 module _ (a b : List ℕ) (i : ℕ) where
   from : i < length a → i < length b → same (drop i a) (drop i b) ≡ (eqb (getD a i 0) (getD b i 0) && same (drop (suc i) a) (drop (suc i) b))

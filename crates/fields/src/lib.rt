@@ -5,6 +5,7 @@ ghost use mathlib.Core.Bool.{_&&_, cond};
 ghost use lib.Dec.{eqb, leb, ltb};
 ghost use lib.ListN.{length, drop};
 ghost use Rattle.fields.specs.Text.{inLine, isBlank, inField, runEnd, fieldStart, fieldEnd, field, noField, same, noNumber, baseOf, digitOf, widthAllowed, numberOf, numberAt};
+use bits::usize_of_u8;
 
 // What is no number.
 const NO_NUMBER: usize = 4294967296;
@@ -138,20 +139,26 @@ pub fn between(low: usize, n: usize, high: usize) -> bool
 }
 
 // The digit that a byte is; 16 where it is none.
-fn digit_of(hex: bool, b: u8) -> usize
+pub fn digit_of(hex: bool, b: u8) -> u8
     ensures { λ r. ⌜ r ≡ digitOf hex b ⌝ }
 {
     let n = b as usize;
     if between(0x30, n, 0x39) {
-        return n - 0x30;
+        return b - 0x30;
     }
     if hex & between(0x41, n, 0x46) {
-        return n - 0x37;
+        return b - 0x37;
     }
     if hex & between(0x61, n, 0x66) {
-        return n - 0x57;
+        return b - 0x57;
     }
     16
+}
+
+fn digit_value(hex: bool, b: u8) -> usize
+    ensures { λ r. ⌜ r ≡ digitOf hex b ⌝ }
+{
+    usize_of_u8(digit_of(hex, b))
 }
 
 // Whether a number may have n digits.
@@ -173,7 +180,7 @@ fn number_of(s: &[u8], hex: bool, least: usize, most: usize) -> usize
     let mut value: usize = 0;
     let mut i: usize = 0;
     while i < n {
-        let digit = digit_of(hex, s[i]);
+        let digit = digit_value(hex, s[i]);
         if digit < 16 {
             value = value * base + digit;
             i += 1;

@@ -15,7 +15,7 @@ use Rattle.bits.specs.Lists.{listed}
 use Rattle.bits.proofs.Lists.{length-listed}
 use Rattle.frs_queue.specs.declared.Frs.{Frs}
 use Rattle.frs_queue.specs.declared.Queue.{Queue}
-use Rattle.frs_queue.specs.Queue.{Ring, placeOf, cellOf, queues, drops, arrives, arriveAll, isEmpty, movedOn, removed, emptied, registerOf, messagesOf}
+use Rattle.frs_queue.specs.Queue.{Ring, placeOf, cellOf, reasonIn, queues, drops, arrives, arriveAll, isEmpty, movedOn, removed, emptied, registerOf, messagesOf}
 use Rattle.frs_queue.proofs.Places.{place-lt, place-differs, place-moved}
 use Rattle.frs_queue.proofs.Listed.{listed-same, listed-more, listed-head}
 
@@ -285,3 +285,7 @@ pub arriveAll-same : (enabled : Bool) (messages : List Frs) (r s : Ring) → Sam
 unfolding arriveAll
 arriveAll-same enabled [] r s h = h
 arriveAll-same enabled (frs ∷ more) r s h = arriveAll-same enabled more (arrives enabled frs r) (arrives enabled frs s) (arrives-same enabled frs r s h)
+
+-- A message's cell holds its reason.
+pub reason-in-cell : (f : Frs) → f .id < 65536 → reasonIn (cellOf f) ≡ f .reason
+reason-in-cell f h = omega arith

@@ -8,6 +8,7 @@ use native.Mathlib.Omega.{arith}
 use lib.Dec.{leb, ltb}
 use lib.ListN.{length}
 use borrow.Author.Tests.{leb-true, leb-false}
+use Rattle.bits.proofs.Choices.{through}
 use Rattle.frs_queue.specs.declared.Frs.{Frs}
 use Rattle.frs_queue.specs.declared.Tally.{Tally}
 use Rattle.frs_queue.specs.Queue.{Ring, noTally, counted, plusTally, after, queues, drops, arrives, arriveAll}
@@ -54,10 +55,6 @@ plus-none-right t h = simp (none-after (t .queued) (h .queued), none-after (t .d
 -- tallies may be taken together in any grouping
 pub plus-assoc : (a b c : Tally) → plusTally (plusTally a b) c ≡ plusTally a (plusTally b c)
 plus-assoc a b c = simp (counted-assoc, or-assoc)
-
-through : {A B : Type 0} (f : A → B) (b : Bool) {u v : B} (x y : A) → u ≡ f x → v ≡ f y → cond b u v ≡ f (cond b x y)
-through f true x y p q = p
-through f false x y p q = q
 
 queues-after : (e : Tally) (enabled : Bool) (frs : Frs) (r : Ring) → queues enabled frs (after e r) ≡ after e (queues enabled frs r)
 unfolding queues

@@ -1,6 +1,6 @@
 -- The queue of FRS messages at the root port (01, "Queue").
 -- Assumes nothing.
-use Prim.Native.Nat.{ℕ, _+_, _-_, _*_, _%_}
+use Prim.Native.Nat.{ℕ, _+_, _-_, _*_, _/_, _%_}
 use mathlib.Core.Bool.{Bool, true, false, not, _&&_, _||_, cond}
 use mathlib.Core.List.{List, [], _∷_}
 use lib.Dec.{eqb, leb, ltb}
@@ -54,6 +54,10 @@ placeOf cells start k = (start + k) % cells
 -- cell value reason · 65,536 + ID
 abbrev pub cellOf : Frs → ℕ
 cellOf frs = frs .reason * 65536 + frs .id
+
+-- the reason that stands in a cell
+abbrev pub reasonIn : (cell : ℕ) → ℕ
+reasonIn cell = cell / 65536
 
 -- the tally with one more queued: Received is set, and was as given
 abbrev pub tallyQueued : (enabled received : Bool) → Tally → Tally

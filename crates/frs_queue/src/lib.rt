@@ -61,9 +61,10 @@ fn in_ring(start: usize, n: usize) -> usize
 }
 
 // The cell of the message that stands k places behind the oldest, in a ring of n cells.
-fn place(start: usize, k: usize, n: usize) -> usize
+pub fn place(start: usize, k: usize, n: usize) -> usize
     requires { ⌜ (0 < n) × (k ≤ n) ⌝ }
     ensures { λ r. ⌜ r ≡ placeOf n start k ⌝ }
+    ensures { λ r. ⌜ r < n ⌝ }
 {
     let first = in_ring(start, n);
     let room = n - first;

@@ -1,21 +1,21 @@
--- A record's fields as they stand in the input, and the kinds that there are not.
+-- A record's fields as they stand in the input, by its kind; the kinds that there are not; eight bytes stored.
 -- Assumes nothing.
-use Prim.Native.Nat.{ℕ, zero, suc, _+_, _*_, _≤_, _<_}
+use Prim.Native.Nat.{ℕ, zero, suc, _+_, _*_, _≤_}
 use mathlib.Core.Path.{_≡_, refl, sym, ap, ap₂, _∙_}
-use mathlib.Core.List.{List, [], _∷_}
+use mathlib.Core.List.{List}
 use native.Mathlib.Omega.{arith}
-use lib.ListN.{length, getD, take, drop, set, length-drop, List·getD-append, List·getD-eq-default}
-use lib.Seq.{paste, paste-zero, paste-suc, getD-take, getD-drop, length-take-le, take-append-le, take-take, drop-drop}
+use lib.ListN.{length, getD, take, drop, set, List·getD-eq-default}
+use lib.Seq.{paste, paste-zero, paste-suc, getD-drop, drop-drop}
 use lib.Dec.{ltb}
-use borrow.Author.Tests.{ltb-true, ltb-false}
-use Rattle.trace.specs.Format.{sizes, sizeOf, pad, longest}
+use borrow.Author.Tests.{ltb-true, ltb-false, ne-eqb}
+use Rattle.bits.proofs.Tests.{split}
+use Rattle.trace.specs.Format.{recordSizes, sizeOf}
 use Rattle.times.specs.declared.Nanos.{Nanos}
 use Rattle.messages.specs.declared.Message.{Message as MessageRead}
 use Rattle.records.specs.declared.Request.{Request}
-use Rattle.trace.proofs.Tests.{split}
 use Rattle.messages.specs.Messages.{readMessage}
 use Rattle.records.specs.declared.Record.{Record}
-use Rattle.records.specs.declared.Record.the-variants.{Advance, Read, Write, Message, LinkUp, LinkDown, ColdReset, ReadQueue, RemoveOldest, ClearBits, Control, HardwareSet, ReadBits}
+use Rattle.records.specs.declared.Record.the-variants.{Advance, Read, Write, Message, LinkUp, LinkDown, ColdReset, ReadQueue, RemoveOldest, ClearBits, Control, HardwareSet, ReadBits, NoKind}
 use Rattle.records.specs.Decode.{byte, four, requestIn, decode}
 
 -- ---- a kind that there is not has no size
@@ -29,8 +29,8 @@ pub no-size : (k : ℕ) → (k ≡ 1 → ⊥) → (k ≡ 2 → ⊥) → (k ≡ 3
 unfolding sizeOf
 no-size k n1 n2 n3 n4 n5 n6 n7 n8 n9 n10 n11 n12 n13 =
     split (ltb 0 k)
-    (λ t. let h = ltb-true 0 k t in sym (List·getD-eq-default sizes 0 {n = k} (past k 13 (past k 12 (past k 11 (past k 10 (past k 9 (past k 8 (past k 7 (past k 6 (past k 5 (past k 4 (past k 3 (past k 2 (past k 1 h n1) n2) n3) n4) n5) n6) n7) n8) n9) n10) n11) n12) n13)))
-    (λ f. sym (ap (λ (n : ℕ). getD sizes n 0) (none-below k (ltb-false 0 k f))))
+    (λ t. let h = ltb-true 0 k t in sym (List·getD-eq-default recordSizes 0 {n = k} (past k 13 (past k 12 (past k 11 (past k 10 (past k 9 (past k 8 (past k 7 (past k 6 (past k 5 (past k 4 (past k 3 (past k 2 (past k 1 h n1) n2) n3) n4) n5) n6) n7) n8) n9) n10) n11) n12) n13)))
+    (λ f. sym (ap (λ (n : ℕ). getD recordSizes n 0) (none-below k (ltb-false 0 k f))))
 
 -- ---- eight bytes, stored one after the other
 unfoldable pub stores : List ℕ → ℕ → List ℕ → ℕ → List ℕ
@@ -99,47 +99,9 @@ module _ (r : List ℕ) where
   unfolding decode
   decode-13 e = rw e
 
--- ---- the n bytes of l from `at` on, with zeros after them
-abbrev pub front : List ℕ → ℕ → ℕ → List ℕ
-front l at n = pad longest (take n (drop at l))
-
-module _ (l : List ℕ) (at n : ℕ) (h : at + n ≤ length l) where
-  front-byte : (j : ℕ) → j < n → byte (front l at n) j ≡ getD l (at + j) 0
-  front-byte j b =
-      let m : length (take n (drop at l)) ≡ n = length-take-le n (drop at l) (omega (arith, length-drop at l)) in
-      List·getD-append (take n (drop at l)) _ 0 j (omega arith)
-      ∙ getD-take n (drop at l) j 0 b
-      ∙ getD-drop at l j 0
-
-  pub front-kind : 0 < n → byte (front l at n) 0 ≡ getD l at 0
-  front-kind b = let z : at + 0 ≡ at = omega arith in front-byte 0 b ∙ ap (λ (i : ℕ). getD l i 0) z
-
-  front-four : (j : ℕ) → j + 4 ≤ n → four (front l at n) j ≡ four l (at + j)
-  unfolding four
-  front-four j b =
-      let x : at + (j + 1) ≡ at + j + 1 = omega arith in
-      let y : at + (j + 2) ≡ at + j + 2 = omega arith in
-      let z : at + (j + 3) ≡ at + j + 3 = omega arith in
-      λ i. front-byte j (omega arith) i
-      + 256 * (front-byte (j + 1) (omega arith) ∙ ap (λ (n : ℕ). getD l n 0) x) i
-      + 65536 * (front-byte (j + 2) (omega arith) ∙ ap (λ (n : ℕ). getD l n 0) y) i
-      + 16777216 * (front-byte (j + 3) (omega arith) ∙ ap (λ (n : ℕ). getD l n 0) z) i
-
-  front-request : 4 ≤ n → (q : Request) → q ≡ record { slot = getD l (at + 1) 0; word = getD l (at + 2) 0; enables = getD l (at + 3) 0 } → q ≡ requestIn (front l at n)
-  front-request b q f =
-      _∙_ {A = Request} f
-      (λ i. record {
-        slot = sym (front-byte 1 (omega arith)) i;
-        word = sym (front-byte 2 (omega arith)) i;
-        enables = sym (front-byte 3 (omega arith)) i;
-      })
-
--- the bytes of a message
-message-bytes : (l : List ℕ) → 17 ≤ length l → take 16 (drop 1 (pad longest (take 17 l))) ≡ take 16 (drop 1 l)
-message-bytes [] h = absurd (omega arith)
-message-bytes (x ∷ xs) h =
-    let n : length (take 16 xs) ≡ 16 = length-take-le 16 xs (omega arith) in
-    take-append-le 16 (take 16 xs) _ (omega arith) ∙ take-take 16 16 xs (omega arith)
+  pub decode-none : (k : ℕ) → byte r 0 ≡ k → (k ≡ 1 → ⊥) → (k ≡ 2 → ⊥) → (k ≡ 3 → ⊥) → (k ≡ 4 → ⊥) → (k ≡ 5 → ⊥) → (k ≡ 6 → ⊥) → (k ≡ 7 → ⊥) → (k ≡ 8 → ⊥) → (k ≡ 9 → ⊥) → (k ≡ 10 → ⊥) → (k ≡ 11 → ⊥) → (k ≡ 12 → ⊥) → (k ≡ 13 → ⊥) → NoKind ≡ decode r
+  unfolding decode
+  decode-none k e n1 n2 n3 n4 n5 n6 n7 n8 n9 n10 n11 n12 n13 = rw e (simp (ne-eqb k 1 n1, ne-eqb k 2 n2, ne-eqb k 3 n3, ne-eqb k 4 n4, ne-eqb k 5 n5, ne-eqb k 6 n6, ne-eqb k 7 n7, ne-eqb k 8 n8, ne-eqb k 9 n9, ne-eqb k 10 n10, ne-eqb k 11 n11, ne-eqb k 12 n12, ne-eqb k 13 n13))
 
 -- ---- each kind's size
 pub size-1 : sizeOf 1 ≡ 5
@@ -158,26 +120,6 @@ pub size-4 : sizeOf 4 ≡ 17
 unfolding sizeOf
 size-4 = refl
 
-pub size-5 : sizeOf 5 ≡ 1
-unfolding sizeOf
-size-5 = refl
-
-pub size-6 : sizeOf 6 ≡ 1
-unfolding sizeOf
-size-6 = refl
-
-pub size-7 : sizeOf 7 ≡ 1
-unfolding sizeOf
-size-7 = refl
-
-pub size-8 : sizeOf 8 ≡ 1
-unfolding sizeOf
-size-8 = refl
-
-pub size-9 : sizeOf 9 ≡ 1
-unfolding sizeOf
-size-9 = refl
-
 pub size-10 : sizeOf 10 ≡ 2
 unfolding sizeOf
 size-10 = refl
@@ -190,61 +132,46 @@ pub size-12 : sizeOf 12 ≡ 7
 unfolding sizeOf
 size-12 = refl
 
-pub size-13 : sizeOf 13 ≡ 1
-unfolding sizeOf
-size-13 = refl
-
 -- ---- the record at `at` of l, field by field
 module _ (l : List ℕ) (at : ℕ) where
-  pub reads-1 : getD l at 0 ≡ 1 → at + 5 ≤ length l → (x : Nanos) → x ≡ record { 0 = four l (at + 1) } → Advance x ≡ decode (front l at 5)
-  reads-1 e h x q =
-      ap Advance (q ∙ ap (λ (n : ℕ). record { 0 = n }) (sym (front-four l at 5 h 1 (omega arith)))) ∙ sym (decode-1 _ (front-kind l at 5 h (omega arith) ∙ e))
+  pub kind-at : byte (drop at l) 0 ≡ getD l at 0
+  kind-at = let z : at + 0 ≡ at = omega arith in getD-drop at l 0 0 ∙ ap (λ (i : ℕ). getD l i 0) z
 
-  pub reads-2 : getD l at 0 ≡ 2 → at + 4 ≤ length l → (q : Request) → q ≡ record { slot = getD l (at + 1) 0; word = getD l (at + 2) 0; enables = getD l (at + 3) 0 } → Read q ≡ decode (front l at 4)
-  reads-2 e h q f = ap Read (front-request l at 4 h (omega arith) q f) ∙ sym (decode-2 _ (front-kind l at 4 h (omega arith) ∙ e))
+  byte-at : (j : ℕ) → getD l (at + j) 0 ≡ byte (drop at l) j
+  byte-at j = sym (getD-drop at l j 0)
 
-  pub reads-3 : getD l at 0 ≡ 3 → at + 8 ≤ length l → (q : Request) → q ≡ record { slot = getD l (at + 1) 0; word = getD l (at + 2) 0; enables = getD l (at + 3) 0 } → (v : ℕ) → v ≡ four l (at + 4) → Write q v ≡ decode (front l at 8)
-  reads-3 e h q f v g =
-      ap₂ Write (front-request l at 8 h (omega arith) q f) (g ∙ sym (front-four l at 8 h 4 (omega arith))) ∙ sym (decode-3 _ (front-kind l at 8 h (omega arith) ∙ e))
+  four-at : (j : ℕ) → four l (at + j) ≡ four (drop at l) j
+  unfolding four
+  four-at j =
+      let x : at + j + 1 ≡ at + (j + 1) = omega arith in
+      let y : at + j + 2 ≡ at + (j + 2) = omega arith in
+      let z : at + j + 3 ≡ at + (j + 3) = omega arith in
+      λ i. byte-at j i
+      + 256 * (ap (λ (n : ℕ). getD l n 0) x ∙ byte-at (j + 1)) i
+      + 65536 * (ap (λ (n : ℕ). getD l n 0) y ∙ byte-at (j + 2)) i
+      + 16777216 * (ap (λ (n : ℕ). getD l n 0) z ∙ byte-at (j + 3)) i
 
-  pub reads-4 : getD l at 0 ≡ 4 → at + 17 ≤ length l → (m : MessageRead) (n : ℕ) → n ≡ 16 → m ≡ readMessage (take n (drop (at + 1) l)) → Message m ≡ decode (front l at 17)
-  reads-4 e h m n f g =
-      ap Message
-      (g
-      ∙ ap (λ (n : ℕ). readMessage (take n (drop (at + 1) l))) f
-      ∙ ap (λ (d : List ℕ). readMessage (take 16 d)) (sym (drop-drop 1 at l))
-      ∙ ap readMessage (sym (message-bytes (drop at l) (omega (arith, length-drop at l)))))
-      ∙ sym (decode-4 _ (front-kind l at 17 h (omega arith) ∙ e))
+  request-at : (q : Request) → q ≡ record { slot = getD l (at + 1) 0; word = getD l (at + 2) 0; enables = getD l (at + 3) 0 } → q ≡ requestIn (drop at l)
+  request-at q f = _∙_ {A = Request} f (λ i. record { slot = byte-at 1 i; word = byte-at 2 i; enables = byte-at 3 i })
 
-  pub reads-5 : getD l at 0 ≡ 5 → at + 1 ≤ length l → LinkUp ≡ decode (front l at 1)
-  reads-5 e h = sym (decode-5 _ (front-kind l at 1 h (omega arith) ∙ e))
+  pub reads-1 : getD l at 0 ≡ 1 → (x : Nanos) → x ≡ record { 0 = four l (at + 1) } → Advance x ≡ decode (drop at l)
+  reads-1 e x q = ap Advance (q ∙ ap (λ (n : ℕ). record { 0 = n }) (four-at 1)) ∙ sym (decode-1 _ (kind-at ∙ e))
 
-  pub reads-6 : getD l at 0 ≡ 6 → at + 1 ≤ length l → LinkDown ≡ decode (front l at 1)
-  reads-6 e h = sym (decode-6 _ (front-kind l at 1 h (omega arith) ∙ e))
+  pub reads-2 : getD l at 0 ≡ 2 → (q : Request) → q ≡ record { slot = getD l (at + 1) 0; word = getD l (at + 2) 0; enables = getD l (at + 3) 0 } → Read q ≡ decode (drop at l)
+  reads-2 e q f = ap Read (request-at q f) ∙ sym (decode-2 _ (kind-at ∙ e))
 
-  pub reads-7 : getD l at 0 ≡ 7 → at + 1 ≤ length l → ColdReset ≡ decode (front l at 1)
-  reads-7 e h = sym (decode-7 _ (front-kind l at 1 h (omega arith) ∙ e))
+  pub reads-3 : getD l at 0 ≡ 3 → (q : Request) → q ≡ record { slot = getD l (at + 1) 0; word = getD l (at + 2) 0; enables = getD l (at + 3) 0 } → (v : ℕ) → v ≡ four l (at + 4) → Write q v ≡ decode (drop at l)
+  reads-3 e q f v g = ap₂ Write (request-at q f) (g ∙ four-at 4) ∙ sym (decode-3 _ (kind-at ∙ e))
 
-  pub reads-8 : getD l at 0 ≡ 8 → at + 1 ≤ length l → ReadQueue ≡ decode (front l at 1)
-  reads-8 e h = sym (decode-8 _ (front-kind l at 1 h (omega arith) ∙ e))
+  pub reads-4 : getD l at 0 ≡ 4 → (m : MessageRead) → m ≡ readMessage (take 16 (drop (at + 1) l)) → Message m ≡ decode (drop at l)
+  reads-4 e m g = ap Message (g ∙ ap (λ (d : List ℕ). readMessage (take 16 d)) (sym (drop-drop 1 at l))) ∙ sym (decode-4 _ (kind-at ∙ e))
 
-  pub reads-9 : getD l at 0 ≡ 9 → at + 1 ≤ length l → RemoveOldest ≡ decode (front l at 1)
-  reads-9 e h = sym (decode-9 _ (front-kind l at 1 h (omega arith) ∙ e))
+  pub reads-10 : getD l at 0 ≡ 10 → ClearBits (getD l (at + 1) 0) ≡ decode (drop at l)
+  reads-10 e = ap ClearBits (byte-at 1) ∙ sym (decode-10 _ (kind-at ∙ e))
 
-  pub reads-13 : getD l at 0 ≡ 13 → at + 1 ≤ length l → ReadBits ≡ decode (front l at 1)
-  reads-13 e h = sym (decode-13 _ (front-kind l at 1 h (omega arith) ∙ e))
+  pub reads-11 : getD l at 0 ≡ 11 → Control (getD l (at + 1) 0) ≡ decode (drop at l)
+  reads-11 e = ap Control (byte-at 1) ∙ sym (decode-11 _ (kind-at ∙ e))
 
-  pub reads-10 : getD l at 0 ≡ 10 → at + 2 ≤ length l → ClearBits (getD l (at + 1) 0) ≡ decode (front l at 2)
-  reads-10 e h = ap ClearBits (sym (front-byte l at 2 h 1 (omega arith))) ∙ sym (decode-10 _ (front-kind l at 2 h (omega arith) ∙ e))
-
-  pub reads-11 : getD l at 0 ≡ 11 → at + 2 ≤ length l → Control (getD l (at + 1) 0) ≡ decode (front l at 2)
-  reads-11 e h = ap Control (sym (front-byte l at 2 h 1 (omega arith))) ∙ sym (decode-11 _ (front-kind l at 2 h (omega arith) ∙ e))
-
-  pub reads-12 : getD l at 0 ≡ 12 → at + 7 ≤ length l → (i j v : ℕ) → i ≡ getD l (at + 1) 0 → j ≡ getD l (at + 2) 0 → v ≡ four l (at + 3) → HardwareSet i j v ≡ decode (front l at 7)
-  reads-12 e h i j v f g o =
-      _∙_ {A = Record}
-      (λ t. HardwareSet
-      ((f ∙ sym (front-byte l at 7 h 1 (omega arith))) t)
-      ((g ∙ sym (front-byte l at 7 h 2 (omega arith))) t)
-      ((o ∙ sym (front-four l at 7 h 3 (omega arith))) t))
-      (sym (decode-12 _ (front-kind l at 7 h (omega arith) ∙ e)))
+  pub reads-12 : getD l at 0 ≡ 12 → (i j v : ℕ) → i ≡ getD l (at + 1) 0 → j ≡ getD l (at + 2) 0 → v ≡ four l (at + 3) → HardwareSet i j v ≡ decode (drop at l)
+  reads-12 e i j v f g o =
+      _∙_ {A = Record} (λ t. HardwareSet ((f ∙ byte-at 1) t) ((g ∙ byte-at 2) t) ((o ∙ four-at 3) t)) (sym (decode-12 _ (kind-at ∙ e)))

@@ -1,18 +1,16 @@
 // A call's trace, the carried bytes and then the input, record by record; answers, and the bytes carried to the next call.
 ghost use mathlib.Core.Path.{_≡_};
-ghost use mathlib.Core.Bool.{true, false};
 ghost use mathlib.Core.List.{_++_};
-ghost use Prim.Native.Nat.{ℕ, _+_, _≤_, _<_};
+ghost use Prim.Native.Nat.{_+_, _≤_, _<_};
 ghost use lib.ListN.{length, getD, take, drop};
 ghost use lib.Seq.{paste};
 ghost use Rattle.trace.specs.Format.{sizeOf, pad, longest, next};
-ghost use Rattle.trace.specs.Feed.{gathered};
-ghost use Rattle.gather.specs.Gathering.{gatheredBytes, WholeSize, NextRecord, EndsAt};
+ghost use Rattle.trace.specs.Feed.{wholeSize};
+ghost use Rattle.records.specs.Decode.{decode};
+ghost use Rattle.gather.specs.Gathering.{endingOf};
 use crate::Ending;
-use crate::Gathered;
-use crate::reading::whole_at;
-use readiness::Dev;
-use records::Port;
+use crate::Found;
+use crate::decoding::decode_at;
 use records::Record;
 
 // How many bytes a record of each kind has, its byte of kind with them; 0 where there is no such kind.
@@ -45,50 +43,16 @@ fn byte_at(carried: &[u8], len: usize, input: &[u8], j: usize) -> u8
     if j < len { carried[j] } else { input[j - len] }
 }
 
-// The n bytes of the input from `at` on, and zeros after them.
-fn copy_input(input: &[u8], at: usize, n: usize) -> [u8; 17]
-    requires { ⌜ (n ≤ 17) × (at + n ≤ length (now input)) ⌝ }
-    ensures { λ r. ⌜ r ≡ pad longest (take n (drop at (now (input .entry)))) ⌝ }
+// How many bytes the record in front of a call's trace has, if it is whole and there is room for its answer; else 0.
+pub fn whole_size(carried: &[u8], len: usize, input: &[u8], space: usize) -> usize
+    requires { ⌜ len ≤ length (now carried) ⌝ }
+    ensures { λ r. ⌜ r ≡ wholeSize space (next (take len (now (carried .entry)) ++ now (input .entry))) ⌝ }
 {
-    let mut bytes = [0u8; 17];
-    let mut j = 0;
-    while j < n {
-        bytes[j] = input[at + j];
-        j += 1;
-    }
-    bytes
-}
-
-// The n bytes of a call's trace from `at` on, and zeros after them.
-pub fn copy(carried: &[u8], len: usize, input: &[u8], at: usize, n: usize) -> [u8; 17]
-    requires { ⌜ (len ≤ length (now carried)) × (n ≤ 17) × (at + n ≤ len + length (now input)) ⌝ }
-    ensures { λ r. ⌜ r ≡ pad longest (take n (drop at (take len (now (carried .entry)) ++ now (input .entry)))) ⌝ }
-{
-    if len <= at {
-        return copy_input(input, at - len, n);
-    }
-    let mut bytes = [0u8; 17];
-    let mut j = 0;
-    while j < n {
-        bytes[j] = byte_at(carried, len, input, at + j);
-        j += 1;
-    }
-    bytes
-}
-
-// How many bytes the record at `at` in a call's trace has, if it is whole and there is room for its answer; else 0.
-pub fn whole_size(carried: &[u8], len: usize, input: &[u8], at: usize, space: usize) -> usize
-    requires { ⌜ (len ≤ length (now carried)) × (at ≤ len + length (now input)) ⌝ }
-    ensures { λ r. ⌜ WholeSize (drop at (take len (now (carried .entry)) ++ now (input .entry))) space r ⌝ }
-{
-    let there = len + input.len() - at;
+    let there = len + input.len();
     if there == 0 {
         return 0;
     }
-    let size = size_of(byte_at(carried, len, input, at));
-    if size == 0 {
-        return 0;
-    }
+    let size = size_of(byte_at(carried, len, input, 0));
     if there < size {
         return 0;
     }
@@ -98,63 +62,45 @@ pub fn whole_size(carried: &[u8], len: usize, input: &[u8], at: usize, space: us
     size
 }
 
-// The record at `at` in the input, if it is whole and there is room for its answer; else no kind.
-pub fn next_record(input: &[u8], at: usize, space: usize) -> Record
+fn no_record() -> Found
+    ensures { λ r. ⌜ r .size ≡ 0 ⌝ }
+{
+    Found {
+        record: Record::NoKind,
+        size: 0,
+    }
+}
+
+// The record at `at` in the input, if it is whole and there is room for its answer.
+pub fn next_record(input: &[u8], at: usize, space: usize) -> Found
     requires { ⌜ at ≤ length (now input) ⌝ }
-    ensures { λ r. ⌜ NextRecord (drop at (now (input .entry))) space r ⌝ }
+    ensures { λ r. ⌜ r .size ≡ wholeSize space (next (drop at (now (input .entry)))) ⌝ }
+    ensures { λ r. ⌜ (0 < r .size → r .«record» ≡ decode (drop at (now (input .entry)))) ⌝ }
 {
+    if input.len() <= at {
+        return no_record();
+    }
+    let size = size_of(input[at]);
+    if input.len() < at + size {
+        return no_record();
+    }
     if space < 8 {
-        return Record::NoKind;
+        return no_record();
     }
-    whole_at(input, at)
-}
-
-// The call's end: its number, and how many of the bytes are carried.
-fn ended(number: u8, bytes: [u8; 17], count: usize) -> Gathered
-    ensures { λ r. ⌜ r ≡ record { runs = false; number = number; bytes = bytes; count = count } ⌝ }
-{
-    Gathered {
-        runs: false,
-        number: number,
-        bytes: bytes,
-        count: count,
-    }
-}
-
-// What stands at `at` in a call's trace, with `room` answer bytes left.
-pub fn gather(carried: &[u8], len: usize, input: &[u8], at: usize, room: usize) -> Gathered
-    requires { ⌜ (len ≤ length (now carried)) × (at ≤ len + length (now input)) ⌝ }
-    ensures { λ r. ⌜ gatheredBytes r ≡ gathered (drop at (take len (now (carried .entry)) ++ now (input .entry))) room (next (drop at (take len (now (carried .entry)) ++ now (input .entry)))) ⌝ }
-{
-    let there = len + input.len() - at;
-    if there == 0 {
-        return ended(0, [0; 17], 0);
-    }
-    let size = size_of(byte_at(carried, len, input, at));
     if size == 0 {
-        return ended(31, [0; 17], 0);
+        return no_record();
     }
-    if there < size {
-        let bytes = copy(carried, len, input, at, there);
-        return ended(0, bytes, there);
-    }
-    let bytes = copy(carried, len, input, at, size);
-    if room < 8 {
-        return ended(30, bytes, size - 1);
-    }
-    Gathered {
-        runs: true,
-        number: 0,
-        bytes: bytes,
-        count: size,
+    Found {
+        record: decode_at(input, at),
+        size: size,
     }
 }
 
-// The end of a call that completes no record of its trace: the number, and how many bytes are carried.
+// The end of a call that completes no record of its trace: no byte is there, a kind that there is not, the start of a record, or a whole one, for
+// which there is no room.
 pub fn ending(carried: &[u8], len: usize, input: &[u8]) -> Ending
     requires { ⌜ len ≤ length (now carried) ⌝ }
-    ensures { λ r. ⌜ ((room : ℕ) → gathered (take len (now (carried .entry)) ++ now (input .entry)) room (next (take len (now (carried .entry)) ++ now (input .entry))) .runs ≡ false → EndsAt (take len (now (carried .entry)) ++ now (input .entry)) room r) ⌝ }
-    ensures { λ r. ⌜ (r .count ≤ 16) × (r .count ≤ len + length (now (input .entry))) ⌝ }
+    ensures { λ r. ⌜ r ≡ endingOf (take len (now (carried .entry)) ++ now (input .entry)) ⌝ }
 {
     let there = len + input.len();
     if there == 0 {
@@ -182,6 +128,20 @@ pub fn ending(carried: &[u8], len: usize, input: &[u8]) -> Ending
     }
 }
 
+// The first n bytes of a call's trace, and zeros after them.
+pub fn first_bytes(carried: &[u8], len: usize, input: &[u8], n: usize) -> [u8; 17]
+    requires { ⌜ (len ≤ length (now carried)) × (n ≤ 17) × (n ≤ len + length (now input)) ⌝ }
+    ensures { λ r. ⌜ r ≡ pad longest (take n (take len (now (carried .entry)) ++ now (input .entry))) ⌝ }
+{
+    let mut bytes = [0u8; 17];
+    let mut j = 0;
+    while j < n {
+        bytes[j] = byte_at(carried, len, input, j);
+        j += 1;
+    }
+    bytes
+}
+
 // The first n bytes of a call's trace, as they are carried, with zeros after them.
 pub fn carried_bytes(carried: &[u8], len: usize, input: &[u8], n: usize) -> [u8; 16]
     requires { ⌜ (len ≤ length (now carried)) × (n ≤ 16) × (n ≤ len + length (now input)) ⌝ }
@@ -194,25 +154,6 @@ pub fn carried_bytes(carried: &[u8], len: usize, input: &[u8], n: usize) -> [u8;
         j += 1;
     }
     bytes
-}
-
-// The port after a call: the first n bytes are carried, with zeros after them.
-pub fn keep(dev: Dev, bytes: [u8; 17], n: usize, broken: bool) -> Port
-    requires { ⌜ n ≤ 16 ⌝ }
-    ensures { λ r. ⌜ r ≡ record { dev = dev; carried = pad 16 (take n bytes); «carried_len» = n; broken = broken } ⌝ }
-{
-    let mut carried = [0u8; 16];
-    let mut j = 0;
-    while j < n {
-        carried[j] = bytes[j];
-        j += 1;
-    }
-    Port {
-        dev: dev,
-        carried: carried,
-        carried_len: n,
-        broken: broken,
-    }
 }
 
 // The 8 bytes of an answer go to `answers`, from `at` on.

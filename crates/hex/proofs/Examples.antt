@@ -1,20 +1,15 @@
 -- Examples, computed.
 -- Assumes nothing.
 use Prim.Native.Nat.{ℕ}
-use Prim.Native.Char.{code}
-use Prim.Native.String.{String, [] as none, _∷_ as _then_}
 use mathlib.Core.Path.{_≡_, refl}
 use mathlib.Core.Bool.{Bool, true, false}
 use mathlib.Core.List.{List, [], _∷_}
+use Rattle.bits.specs.Text.{chars}
 use Rattle.hex.specs.declared.Within.{Within}
 use Rattle.hex.specs.declared.Within.the-variants.{Gap, Byte}
-use Rattle.hex.specs.Text.{digitOf, isBlank, inGap, inByte, inComment, turnOf}
+use Rattle.fields.specs.Text.{digitOf}
+use Rattle.hex.specs.Text.{isBlank, inGap, inByte, inComment, turnOf}
 use Rattle.hex.specs.Packing.{start, past, spoiled, stepBy, stepOf, Given, packs}
-
--- the characters of a text, all below 80h
-abbrev chars : String → List ℕ
-chars none = []
-chars (c then s) = code c ∷ chars s
 
 abbrev given : Within → Bool → (line column consumed : ℕ) → List ℕ → Given
 given within bad line column consumed bytes =

@@ -7,12 +7,14 @@ use mathlib.Core.List.{List, [], _∷_, _++_}
 use native.Mathlib.Numerals.{one-add}
 use native.Mathlib.Omega.{arith}
 use lib.ListN.{length, take}
+use Rattle.bits.proofs.Tests.{not-both}
 use Rattle.hex.specs.declared.Within.{Within}
 use Rattle.hex.specs.declared.Within.the-variants.{Gap, Byte, Comment}
 use Rattle.hex.specs.declared.Turn.{Turn}
 use Rattle.hex.specs.declared.Turn.the-variants.{Goes, Completes, Bad}
 use Rattle.hex.specs.declared.Packing.{Packing}
-use Rattle.hex.specs.Text.{turnOf, digitOf, byteOf}
+use Rattle.fields.specs.Text.{digitOf}
+use Rattle.hex.specs.Text.{turnOf, byteOf}
 use Rattle.hex.specs.Packing.{start, past, packs}
 use Rattle.hex.specs.Grammar.{Starts}
 use Rattle.hex.proofs.Turns.{by-goes, by-completes, by-full, by-bad}
@@ -94,9 +96,6 @@ abbrev Nones : List ℕ → Type 0
 Nones text =
     (p : Packing) → p .bad ≡ false → (room : ℕ) → packs p text room .after .bad ≡ true → NoneWith (p .within) (packs p text room .consumed) text
 
-never : {P : Type 0} (t : Bool) → t ≡ false → t ≡ true → P
-never t e f = let z : _≡_ {A = ℕ} 0 1 = cc in absurd (omega arith)
-
 later-goes : {w v : Within} (c n : ℕ) (text : List ℕ) → turnOf w c ≡ Goes v → NoneWith v n text → NoneWith w (suc n) (c ∷ text)
 later-goes c n text e h = record { stands = omega (arith, h .stands); none = λ rest bytes f. h .none rest bytes (on-goes e f) }
 
@@ -111,7 +110,7 @@ unfolding past
 none-turn p o c text f (Goes v) room e =
     rw (by-goes p o c text room v e, one-add)
     (λ b. later-goes c _ text e (f (past c v p) refl room b))
-none-turn p o c text f (Completes b) zero e = rw (by-full p o c text b e) (λ x. never (p .bad) o x)
+none-turn p o c text f (Completes b) zero e = rw (by-full p o c text b e) (λ x. not-both x o)
 none-turn p o c text f (Completes b) (suc room) e =
     rw (by-completes p o c text room b e, one-add)
     (λ x. later-completes c b _ text e (f (past c Gap p) refl room x))
@@ -120,7 +119,7 @@ none-turn p o c text f Bad room e =
 
 nones : (text : List ℕ) → Nones text
 unfolding packs
-nones [] p o room b = never (p .bad) o b
+nones [] p o room b = not-both b o
 nones (c ∷ text) p o room b = none-turn p o c text (nones text) (turnOf (p .within) c) room refl b
 
 -- where a bad character is found, it stands in the text where the packing stopped

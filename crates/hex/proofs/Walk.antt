@@ -5,14 +5,15 @@ use mathlib.Core.Path.{_≡_, refl, ap, sym, subst, _∙_}
 use mathlib.Core.Bool.{Bool, true, false, not, _||_, cond}
 use mathlib.Core.List.{List, [], _∷_, _++_}
 use native.Mathlib.Nat.{mod-eq-of-lt}
-use borrow.Author.Tests.{ltb-true, eqb-true}
+use borrow.Author.Tests.{ltb-true, eqb-true, not-true}
 use lib.Dec.{eqb}
 use Rattle.bits.proofs.Tests.{both-left, both-right, both}
 use Rattle.hex.specs.declared.Within.{Within}
 use Rattle.hex.specs.declared.Within.the-variants.{Gap, Byte, Comment}
 use Rattle.hex.specs.declared.Turn.{Turn}
 use Rattle.hex.specs.declared.Turn.the-variants.{Goes, Completes, Bad}
-use Rattle.hex.specs.Text.{digitOf, isDigit, isBlank, isLineEnd, startsComment, byteOf, inGap, inByte, inComment, turnOf}
+use Rattle.fields.specs.Text.{digitOf}
+use Rattle.hex.specs.Text.{isDigit, isBlank, isLineEnd, startsComment, byteOf, inGap, inByte, inComment, turnOf}
 use Rattle.hex.specs.Grammar.{inOneLine, HexText}
 use Rattle.hex.specs.Grammar.HexText.{nothing, blank, byte, comment, last}
 
@@ -43,8 +44,8 @@ blank-no-digit c h =
     (same-digit c 0x0A refl)
     h
 
-digit-small : (c : ℕ) → isDigit c ≡ true → digitOf c % 16 ≡ digitOf c
-digit-small c h = mod-eq-of-lt (ltb-true (digitOf c) 16 h)
+digit-small : (c : ℕ) → isDigit c ≡ true → digitOf true c % 16 ≡ digitOf true c
+digit-small c h = mod-eq-of-lt (ltb-true (digitOf true c) 16 h)
 
 -- ---- what each character does
 
@@ -52,7 +53,7 @@ pub blank-goes : (c : ℕ) → isBlank c ≡ true → turnOf Gap c ≡ Goes Gap
 unfolding turnOf inGap
 blank-goes c h = simp (blank-no-digit c h, h)
 
-pub digit-goes : (c : ℕ) → isDigit c ≡ true → turnOf Gap c ≡ Goes (Byte (digitOf c))
+pub digit-goes : (c : ℕ) → isDigit c ≡ true → turnOf Gap c ≡ Goes (Byte (digitOf true c))
 unfolding turnOf inGap
 digit-goes c h = simp h
 
@@ -60,15 +61,15 @@ pub hash-goes : turnOf Gap 0x23 ≡ Goes Comment
 unfolding turnOf inGap isBlank digitOf
 hash-goes = refl
 
-pub low-completes : (h c : ℕ) → isDigit c ≡ true → turnOf (Byte h) c ≡ Completes (byteOf h (digitOf c))
+pub low-completes : (h c : ℕ) → isDigit c ≡ true → turnOf (Byte h) c ≡ Completes (byteOf h (digitOf true c))
 unfolding turnOf inByte
 low-completes h c e = simp e
 
-plain-byte : (high low : ℕ) → isDigit high ≡ true → isDigit low ≡ true → byteOf (digitOf high) (digitOf low) ≡ digitOf high * 16 + digitOf low
+plain-byte : (high low : ℕ) → isDigit high ≡ true → isDigit low ≡ true → byteOf (digitOf true high) (digitOf true low) ≡ digitOf true high * 16 + digitOf true low
 plain-byte high low h l = rw (digit-small high h, digit-small low l)
 
-pair-completes : (high low : ℕ) → isDigit high ≡ true → isDigit low ≡ true → turnOf (Byte (digitOf high)) low ≡ Completes (digitOf high * 16 + digitOf low)
-pair-completes high low h l = low-completes (digitOf high) low l ∙ ap Completes (plain-byte high low h l)
+pair-completes : (high low : ℕ) → isDigit high ≡ true → isDigit low ≡ true → turnOf (Byte (digitOf true high)) low ≡ Completes (digitOf true high * 16 + digitOf true low)
+pair-completes high low h l = low-completes (digitOf true high) low l ∙ ap Completes (plain-byte high low h l)
 
 pub line-end-goes : turnOf Comment 0x0A ≡ Goes Gap
 unfolding turnOf inComment
@@ -80,20 +81,16 @@ in-line-goes c h = simp h
 
 -- ---- hex text is walked
 
-pub not-so : (t : Bool) → not t ≡ true → t ≡ false
-not-so true e = sym e
-not-so false e = refl
-
 in-comment : (line : List ℕ) {text bytes : List ℕ} → inOneLine line ≡ true → From Gap text bytes → From Comment (line ++ 0x0A ∷ text) bytes
 in-comment [] h f = goes line-end-goes f
 in-comment (c ∷ line) h f =
-    goes (in-line-goes c (not-so (isLineEnd c) (both-left (not (isLineEnd c)) (inOneLine line) h)))
+    goes (in-line-goes c (not-true (isLineEnd c) (both-left (not (isLineEnd c)) (inOneLine line) h)))
     (in-comment line (both-right (not (isLineEnd c)) (inOneLine line) h) f)
 
 in-last : (line : List ℕ) → inOneLine line ≡ true → From Comment line []
 in-last [] h = ends-comment
 in-last (c ∷ line) h =
-    goes (in-line-goes c (not-so (isLineEnd c) (both-left (not (isLineEnd c)) (inOneLine line) h)))
+    goes (in-line-goes c (not-true (isLineEnd c) (both-left (not (isLineEnd c)) (inOneLine line) h)))
     (in-last line (both-right (not (isLineEnd c)) (inOneLine line) h))
 
 pub walked : {text bytes : List ℕ} → HexText text bytes → From Gap text bytes
@@ -109,22 +106,22 @@ walked (last {line} h) = goes hash-goes (in-last line h)
 
 -- what a character does, and why
 pub data Does : Within → ℕ → Turn → Type 0 where
-  digit : {c : ℕ} → isDigit c ≡ true → Does Gap c (Goes (Byte (digitOf c)))
+  digit : {c : ℕ} → isDigit c ≡ true → Does Gap c (Goes (Byte (digitOf true c)))
   space : {c : ℕ} → isBlank c ≡ true → Does Gap c (Goes Gap)
   hash : {c : ℕ} → startsComment c ≡ true → Does Gap c (Goes Comment)
-  low : {h c : ℕ} → isDigit c ≡ true → Does (Byte h) c (Completes (byteOf h (digitOf c)))
+  low : {h c : ℕ} → isDigit c ≡ true → Does (Byte h) c (Completes (byteOf h (digitOf true c)))
   line-end : {c : ℕ} → isLineEnd c ≡ true → Does Comment c (Goes Gap)
   in-line : {c : ℕ} → isLineEnd c ≡ false → Does Comment c (Goes Comment)
   none : {w : Within} {c : ℕ} → Does w c Bad
 
 gap-does : (c : ℕ) (d b s : Bool) → isDigit c ≡ d → isBlank c ≡ b → startsComment c ≡ s
-    → Does Gap c (cond d (Goes (Byte (digitOf c))) (cond b (Goes Gap) (cond s (Goes Comment) Bad)))
+    → Does Gap c (cond d (Goes (Byte (digitOf true c))) (cond b (Goes Gap) (cond s (Goes Comment) Bad)))
 gap-does c true b s e f g = digit e
 gap-does c false true s e f g = space f
 gap-does c false false true e f g = hash g
 gap-does c false false false e f g = none
 
-byte-does : (h c : ℕ) (d : Bool) → isDigit c ≡ d → Does (Byte h) c (cond d (Completes (byteOf h (digitOf c))) Bad)
+byte-does : (h c : ℕ) (d : Bool) → isDigit c ≡ d → Does (Byte h) c (cond d (Completes (byteOf h (digitOf true c))) Bad)
 byte-does h c true e = low e
 byte-does h c false e = none
 
@@ -141,11 +138,11 @@ does Comment c = comment-does c (isLineEnd c) refl
 -- the rest of a text, in the grammar's terms
 data Rest : Within → (text bytes : List ℕ) → Type 0 where
   at-gap : {text bytes : List ℕ} → HexText text bytes → Rest Gap text bytes
-  at-low : {h l : ℕ} {text bytes : List ℕ} → isDigit l ≡ true → HexText text bytes → Rest (Byte h) (l ∷ text) (byteOf h (digitOf l) ∷ bytes)
+  at-low : {h l : ℕ} {text bytes : List ℕ} → isDigit l ≡ true → HexText text bytes → Rest (Byte h) (l ∷ text) (byteOf h (digitOf true l) ∷ bytes)
   at-line : (line : List ℕ) {text bytes : List ℕ} → inOneLine line ≡ true → HexText text bytes → Rest Comment (line ++ 0x0A ∷ text) bytes
   at-last : {line : List ℕ} → inOneLine line ≡ true → Rest Comment line []
 
-back-digit : (c : ℕ) {text bytes : List ℕ} → isDigit c ≡ true → Rest (Byte (digitOf c)) text bytes → HexText (c ∷ text) bytes
+back-digit : (c : ℕ) {text bytes : List ℕ} → isDigit c ≡ true → Rest (Byte (digitOf true c)) text bytes → HexText (c ∷ text) bytes
 back-digit c e (at-low {l = l} {text = text} {bytes = bytes} f r) =
     subst (λ (b : ℕ). HexText (c ∷ l ∷ text) (b ∷ bytes)) (sym (plain-byte c l e f)) (byte e f r)
 

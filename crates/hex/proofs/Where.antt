@@ -8,6 +8,7 @@ use native.Mathlib.Omega.{arith}
 use native.Mathlib.Nat.{mod-eq-of-lt}
 use native.Mathlib.Numerals.{one-add}
 use lib.ListN.{length, take}
+use borrow.Author.Tests.{not-true}
 use Rattle.bits.proofs.Tests.{both-left, both-right}
 use Rattle.hex.specs.declared.Within.{Within}
 use Rattle.hex.specs.declared.Within.the-variants.{Gap}
@@ -19,7 +20,6 @@ use Rattle.hex.specs.Packing.{start, oneMore, past, spoiled, packs}
 use Rattle.hex.specs.Grammar.{inOneLine}
 use Rattle.hex.specs.Places.{lineEnds, lastLine, lineAfter, columnAfter}
 use Rattle.hex.proofs.Turns.{by-goes, by-completes, by-full, by-bad}
-use Rattle.hex.proofs.Walk.{not-so}
 
 counts-on : (n : ℕ) → n + 1 < 2 ^ 64 → oneMore n ≡ n + 1
 counts-on n h = mod-eq-of-lt h
@@ -110,7 +110,7 @@ counted (c ∷ text) p o room h = counted-turn p o c text (counted text) (turnOf
 -- a text of one line is its own last line
 one-line : (c : ℕ) (s : List ℕ) → inOneLine (c ∷ s) ≡ true → length (lastLine (c ∷ s)) ≡ suc (length s)
 one-line c s e =
-    let l : isLineEnd c ≡ false = not-so (isLineEnd c) (both-left (not (isLineEnd c)) (inOneLine s) e) in
+    let l : isLineEnd c ≡ false = not-true (isLineEnd c) (both-left (not (isLineEnd c)) (inOneLine s) e) in
     simp (both-right (not (isLineEnd c)) (inOneLine s) e, l)
 
 from-one : (s : List ℕ) (t : Bool) → inOneLine s ≡ t → cond t (1 + length s) (columnAfter s) ≡ columnAfter s

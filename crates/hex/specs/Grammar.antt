@@ -4,7 +4,8 @@ use Prim.Native.Nat.{ℕ, _+_, _*_}
 use mathlib.Core.Path.{_≡_}
 use mathlib.Core.Bool.{Bool, true, not, _&&_}
 use mathlib.Core.List.{List, [], _∷_, _++_}
-use Rattle.hex.specs.Text.{digitOf, isDigit, isBlank, isLineEnd}
+use Rattle.fields.specs.Text.{digitOf}
+use Rattle.hex.specs.Text.{isDigit, isBlank, isLineEnd}
 
 -- characters of one line
 abbrev pub inOneLine : List ℕ → Bool
@@ -16,7 +17,7 @@ pub data HexText : (text bytes : List ℕ) → Type 0 where
   nothing : HexText [] []
   blank : {c : ℕ} {text bytes : List ℕ} → isBlank c ≡ true → HexText text bytes → HexText (c ∷ text) bytes
   byte : {high low : ℕ} {text bytes : List ℕ} → isDigit high ≡ true → isDigit low ≡ true → HexText text bytes
-      → HexText (high ∷ low ∷ text) ((digitOf high * 16 + digitOf low) ∷ bytes)
+      → HexText (high ∷ low ∷ text) ((digitOf true high * 16 + digitOf true low) ∷ bytes)
   comment : (line : List ℕ) {text bytes : List ℕ} → inOneLine line ≡ true → HexText text bytes → HexText (0x23 ∷ line ++ 0x0A ∷ text) bytes
   -- a comment in the last line, which may lack its end
   last : {line : List ℕ} → inOneLine line ≡ true → HexText (0x23 ∷ line) []

@@ -5,28 +5,18 @@
 --   blank    a space, a tab, a carriage return or a line end (0Ah)
 --   comment  '#' and all that follows it in the line
 -- Assumes nothing.
-use Prim.Native.Nat.{ℕ, _+_, _-_, _*_, _%_}
-use mathlib.Core.Bool.{Bool, _&&_, _||_, cond}
-use lib.Dec.{eqb, leb, ltb}
+use Prim.Native.Nat.{ℕ, _+_, _*_, _%_}
+use mathlib.Core.Bool.{Bool, true, _||_, cond}
+use lib.Dec.{eqb, ltb}
+use Rattle.fields.specs.Text.{noDigit, digitOf}
 use Rattle.hex.specs.declared.Within.{Within}
 use Rattle.hex.specs.declared.Within.the-variants.{Gap, Byte, Comment}
 use Rattle.hex.specs.declared.Turn.{Turn}
 use Rattle.hex.specs.declared.Turn.the-variants.{Goes, Completes, Bad}
 
--- what is no digit
-abbrev pub noDigit : ℕ
-noDigit = 16
-
--- '0' to '9', 'A' to 'F' and 'a' to 'f'
-unfoldable pub digitOf : ℕ → ℕ
-digitOf c =
-    cond (leb 0x30 c && leb c 0x39) (c - 0x30)
-    (cond (leb 0x41 c && leb c 0x46) (c - 0x37)
-    (cond (leb 0x61 c && leb c 0x66) (c - 0x57) noDigit))
-
 -- whether a character is a digit
 abbrev pub isDigit : ℕ → Bool
-isDigit c = ltb (digitOf c) noDigit
+isDigit c = ltb (digitOf true c) noDigit
 
 -- 0Ah ends a line
 abbrev pub isLineEnd : ℕ → Bool
@@ -46,13 +36,13 @@ byteOf high low = high % 16 * 16 + low % 16
 -- a character between two bytes
 unfoldable pub inGap : ℕ → Turn
 inGap c =
-    cond (isDigit c) (Goes (Byte (digitOf c)))
+    cond (isDigit c) (Goes (Byte (digitOf true c)))
     (cond (isBlank c) (Goes Gap)
     (cond (startsComment c) (Goes Comment) Bad))
 
 -- a character in a byte, after its first digit
 unfoldable pub inByte : (high : ℕ) → ℕ → Turn
-inByte high c = cond (isDigit c) (Completes (byteOf high (digitOf c))) Bad
+inByte high c = cond (isDigit c) (Completes (byteOf high (digitOf true c))) Bad
 
 -- a character in a comment
 unfoldable pub inComment : ℕ → Turn

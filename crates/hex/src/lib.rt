@@ -1,8 +1,8 @@
 // Hex text to bytes, piece by piece: a byte is two hex digits; blanks, line ends and comments stand between bytes.
 ghost use mathlib.Core.Path.{_≡_};
-ghost use mathlib.Core.Bool.{_&&_};
-ghost use lib.Dec.{leb};
-ghost use Rattle.hex.specs.Text.{digitOf, isDigit, isBlank, byteOf, inGap, inByte, inComment, turnOf};
+ghost use mathlib.Core.Bool.{true};
+ghost use Rattle.fields.specs.Text.{digitOf};
+ghost use Rattle.hex.specs.Text.{isDigit, isBlank, byteOf, inGap, inByte, inComment, turnOf};
 ghost use Rattle.hex.specs.Packing.{start as startOf, oneMore, isBetween, isWhole, past as pastOf, spoiled, stopsAt, passes, puts, stepBy, stepOf, left, leaves};
 ghost use Rattle.hex.specs.Room.{placed, held};
 
@@ -52,26 +52,11 @@ struct Step {
 // What is no digit.
 pub const NO_DIGIT: u8 = 16;
 
-fn between(low: u8, c: u8, high: u8) -> bool
-    ensures { λ r. ⌜ r ≡ (leb low c && leb c high) ⌝ }
-{
-    (low <= c) & (c <= high)
-}
-
 // The digit that a character is; 16 where it is none.
 pub fn digit_of(c: u8) -> u8
-    ensures { λ r. ⌜ r ≡ digitOf c ⌝ }
+    ensures { λ r. ⌜ r ≡ digitOf true c ⌝ }
 {
-    if between(0x30, c, 0x39) {
-        return c - 0x30;
-    }
-    if between(0x41, c, 0x46) {
-        return c - 0x37;
-    }
-    if between(0x61, c, 0x66) {
-        return c - 0x57;
-    }
-    NO_DIGIT
+    fields::digit_of(true, c)
 }
 
 fn is_digit(c: u8) -> bool

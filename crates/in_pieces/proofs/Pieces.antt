@@ -10,8 +10,8 @@ use lib.ListN.{length, take, drop, length-append, length-drop, take-append-drop}
 use lib.Seq.{length-take-le, take-length, drop-length, take-append-add, drop-append-add, drop-drop}
 use lib.Dec.{eqb, ltb}
 use borrow.Author.Tests.{ltb-true, ltb-false, eqb-true, eqb-false, lt-ltb, le-ltb, eq-eqb, ne-eqb}
+use Rattle.bits.proofs.Tests.{both-left, both-right, split}
 use Rattle.trace.specs.Lent.{Left, unchanged}
-use Rattle.trace.proofs.Tests.{split, and-left, and-right}
 use Rattle.readiness.specs.declared.Setup.{Setup}
 use Rattle.demand3.specs.Held.{Held}
 use Rattle.demand3.specs.SettingUp.{Prepared, setsUp}
@@ -77,8 +77,8 @@ module _ (setup : Setup) (defaults : List ℕ) (size : ℕ) where
   same-calls (suc n) (suc m) number h t a e f =
       split (another number t)
       (λ y.
-      let z = eqb-true number 0 (and-left (eqb number 0) (ltb 0 (length t)) y) in
-      let some = ltb-true 0 (length t) (and-right (eqb number 0) (ltb 0 (length t)) y) in
+      let z = eqb-true number 0 (both-left (eqb number 0) (ltb 0 (length t)) y) in
+      let some = ltb-true 0 (length t) (both-right (eqb number 0) (ltb 0 (length t)) y) in
       let x = next h t a in
       goes n number h t a y
       ∙ ap (then x) (same-calls n m (x .number) (x .held) (drop (x .consumed) t) (drop (x .written) (x .answers)) (λ q. omega (arith, fewer h t a some q, e z)) (λ q. omega (arith, fewer h t a some q, f z)))

@@ -21,7 +21,7 @@ use Rattle.set_up.proofs.Lent.{length-lent}
 use Rattle.demand3.proofs.Prepared.{set-up-number, set-up-refused}
 use Rattle.statuses.specs.Statuses.{storedOver}
 use Rattle.lent_calls.specs.Chain.{LentCall, leftBy, WasSetUp}
-use Rattle.statuses.proofs.Copies.{by-le}
+use Rattle.bits.proofs.Numbers.{by-le}
 use Rattle.bench.proofs.Padding.{given-few, stored-few, stored-many, set-up-many, fed-many}
 
 -- COPIED IN AND OUT AGAIN: nothing changes, whatever is lent

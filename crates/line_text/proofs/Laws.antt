@@ -13,7 +13,7 @@ use lib.ListN.{length, take, drop, set, length-set, take-append-drop, drop-of-le
 use lib.Seq.{take-all, take-nil, append-snoc, take-suc-set, drop-set-lt}
 use Rattle.line_text.specs.Line.{Lined, lined, putByte, puts, Put}
 use Rattle.line_text.specs.Text.{glyphOf, hexOf, decimalFrom}
-use Rattle.bits.proofs.Tests.{all-at}
+use Rattle.bits.proofs.Tests.{all-at, is-true}
 use Rattle.line_text.proofs.Putting.{put-long}
 use Rattle.line_text.specs.Values.{digitOf, valueFrom, valueOf}
 
@@ -97,10 +97,6 @@ whole {text} {before} {at = at} p h =
     p .so ∙ puts-means text before at ∙ rw (i, take-all (length before - at) text (omega arith))
 
 -- ---- digits
-
-is-true : (t : Bool) → T t → t ≡ true
-is-true true h = refl
-is-true false h = absurd h
 
 glyph-digit : (d : ℕ) → d < 16 → digitOf (glyphOf d) ≡ d
 unfolding glyphOf

@@ -1,16 +1,10 @@
 -- Texts and numbers, as characters.
 -- Assumes nothing.
 use Prim.Native.Nat.{ℕ, zero, suc, _+_, _/_, _%_}
-use Prim.Native.Char.{code}
-use Prim.Native.String.{String, [] as none, _∷_ as _then_}
 use mathlib.Core.Bool.{Bool, true, false, cond}
 use mathlib.Core.List.{List, [], _∷_, _++_}
 use lib.Dec.{ltb}
-
--- the characters of a text, all below 80h
-abbrev pub chars : String → List ℕ
-chars none = []
-chars (c then s) = code c ∷ chars s
+pub use Rattle.bits.specs.Text.{chars}
 
 -- a digit below 16: '0' to '9', 'A' to 'F'
 unfoldable pub glyphOf : ℕ → ℕ

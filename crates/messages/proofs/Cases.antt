@@ -9,23 +9,24 @@ use native.Mathlib.Omega.{arith}
 use borrow.Author.Tests.{eqb-true}
 use lib.ListN.{length}
 use lib.Dec.{eqb}
+use Rattle.bits.proofs.Tests.{split}
 use Rattle.messages.specs.declared.Message.{Message}
 use Rattle.messages.specs.declared.Message.the-variants.{Drs, Frs, NotReadiness}
-use Rattle.messages.specs.Messages.{Bytes, byteAt, drs, frs, subtypeOf, trafficClass, requesterId, frsReason, layout, reasonAllowed, frsWith, readMessage, reading, readingOf, writable, canonical, left, stored, written, listedOnly}
-use Rattle.messages.proofs.Laid.{either, Laid, laid, allowed-small}
+use Rattle.messages.specs.Messages.{Bytes, byteAt, drs, frs, subtypeOf, trafficClass, requesterId, frsReason, layout, frsAllowed, frsWith, readMessage, reading, readingOf, writable, canonical, left, stored, written, listedOnly}
+use Rattle.messages.proofs.Laid.{Laid, laid, allowed-small}
 
 -- A reading is one of three: what holds of each holds of the reading.
 pub cases : (P : Message → Type 0) (m : List ℕ)
     → (Laid drs m → P (Drs (requesterId m)))
-    → (Laid frs m → reasonAllowed (frsReason m) ≡ true → P (Frs (requesterId m) (frsReason m)))
+    → (Laid frs m → frsAllowed (frsReason m) ≡ true → P (Frs (requesterId m) (frsReason m)))
     → P NotReadiness
     → P (readMessage m)
 unfolding readMessage frsWith
 cases P m d f n =
-    either (layout drs m) (λ t. simp t (d (laid drs m t)))
+    split (layout drs m) (λ t. simp t (d (laid drs m t)))
     (λ q. simp q
-    (either (layout frs m)
-    (λ t. simp t (either (reasonAllowed (frsReason m)) (λ a. simp a (f (laid frs m t) a)) (λ a. simp a n)))
+    (split (layout frs m)
+    (λ t. simp t (split (frsAllowed (frsReason m)) (λ a. simp a (f (laid frs m t) a)) (λ a. simp a n)))
     (λ t. simp t n)))
 
 -- The writer gives 0 with the 16 bytes, or 19 with the room as it was: what follows from each holds.
@@ -35,8 +36,8 @@ pub outcomes : {P : Type 0} (kind id reason : ℕ) (room : List ℕ)
     → P
 unfolding written stored
 outcomes kind id reason room f g =
-    either (writable kind reason)
-    (λ w. either (eqb (length room) 16) (λ n. f w (simp (w, n))) (λ n. g (simp (w, n))))
+    split (writable kind reason)
+    (λ w. split (eqb (length room) 16) (λ n. f w (simp (w, n))) (λ n. g (simp (w, n))))
     (λ w. g (simp w))
 
 -- The 16 bytes that are written of a kind, an ID and a reason read back as these.
@@ -44,15 +45,15 @@ pub canonical-reads : (kind id reason : ℕ) → writable kind reason ≡ true �
 unfolding writable canonical readMessage layout subtypeOf frsWith
 canonical-reads kind id reason w =
     let i : id / 256 * 256 + id % 256 ≡ id = div-add-mod' id 256 in
-    either (eqb kind drs)
+    split (eqb kind drs)
     (λ t.
     let k : kind ≡ drs = eqb-true kind drs t in
     let r : reason ≡ 0 = eqb-true reason 0 (simp t at w) in
     rw (k, r, i))
     (λ t.
-    let f : (eqb kind frs && reasonAllowed reason) ≡ true = simp t at w in
-    let k : kind ≡ frs = eqb-true kind frs (and-eq-true-iff (eqb kind frs) (reasonAllowed reason) .0 f .0) in
-    let a : reasonAllowed reason ≡ true = and-eq-true-iff (eqb kind frs) (reasonAllowed reason) .0 f .1 in
+    let f : (eqb kind frs && frsAllowed reason) ≡ true = simp t at w in
+    let k : kind ≡ frs = eqb-true kind frs (and-eq-true-iff (eqb kind frs) (frsAllowed reason) .0 f .0) in
+    let a : frsAllowed reason ≡ true = and-eq-true-iff (eqb kind frs) (frsAllowed reason) .0 f .1 in
     let r : reason % 16 ≡ reason = mod-eq-of-lt (allowed-small reason a) in
     rw (k, r, i) (simp a))
 

@@ -7,15 +7,8 @@ use Prim.Native.Nat.{ℕ, _<_}
 use borrow.Author.Tests.{eqb-true, ltb-true}
 use lib.ListN.{length}
 use lib.Dec.{eqb}
-use Rattle.messages.specs.Messages.{byteAt, subtypeOf, trafficClass, layout, reasonAllowed}
-
--- a test is true or false
-pub either : {P : Type 0} (t : Bool) → (t ≡ true → P) → (t ≡ false → P) → P
-either true f g = f refl
-either false f g = g refl
-
-pub not-both : {P : Type 0} {t : Bool} → t ≡ true → t ≡ false → P
-not-both e f = absurd (true≢false (sym e ∙ f))
+use Rattle.bits.proofs.Tests.{split, not-both}
+use Rattle.messages.specs.Messages.{byteAt, subtypeOf, trafficClass, layout, frsAllowed}
 
 -- What the checks say: a message that passes them has the length and the bytes that 01 lists.
 pub record Laid (kind : ℕ) (m : List ℕ) : Type 0 where
@@ -29,7 +22,7 @@ pub record Laid (kind : ℕ) (m : List ℕ) : Type 0 where
 
 -- a check without which a test fails is passed where the test is true
 check : {t : Bool} (x y : ℕ) → t ≡ true → (eqb x y ≡ false → t ≡ false) → x ≡ y
-check x y e f = either (eqb x y) (λ q. eqb-true x y q) (λ q. not-both e (f q))
+check x y e f = split (eqb x y) (λ q. eqb-true x y q) (λ q. not-both e (f q))
 
 pub laid : (kind : ℕ) (m : List ℕ) → layout kind m ≡ true → Laid kind m
 unfolding layout
@@ -45,6 +38,6 @@ laid kind m e =
     }
 
 -- A reason that is allowed has four bits.
-pub allowed-small : (reason : ℕ) → reasonAllowed reason ≡ true → reason < 16
-unfolding reasonAllowed
+pub allowed-small : (reason : ℕ) → frsAllowed reason ≡ true → reason < 16
+unfolding frsAllowed
 allowed-small reason e = ltb-true reason 16 e

@@ -10,10 +10,11 @@ use native.Mathlib.Omega.{arith}
 use borrow.Author.Tests.{eqb-true, eqb-false, eq-eqb, ne-eqb, lt-ltb, le-ltb}
 use lib.ListN.{length}
 use lib.Dec.{eqb, ltb}
+use Rattle.bits.proofs.Tests.{split}
 use Rattle.messages.specs.declared.Message.{Message}
 use Rattle.messages.specs.declared.Message.the-variants.{Frs, NotReadiness}
-use Rattle.messages.specs.Messages.{Bytes, byteAt, drs, frs, trafficClass, requesterId, frsReason, layout, reasonAllowed, readMessage, reading, readingOf, writable, canonical, Written, left, stored, written, listedOnly}
-use Rattle.messages.proofs.Laid.{either, laid, allowed-small}
+use Rattle.messages.specs.Messages.{Bytes, byteAt, drs, frs, trafficClass, requesterId, frsReason, layout, frsAllowed, readMessage, reading, readingOf, writable, canonical, Written, left, stored, written, listedOnly}
+use Rattle.messages.proofs.Laid.{laid, allowed-small}
 use Rattle.messages.proofs.Cases.{cases, outcomes, canonical-reads, canonical-listed}
 
 -- READING
@@ -31,7 +32,7 @@ unfolding readMessage listedOnly
 unlisted-ignored m e =
     let d : layout drs (listedOnly m) ≡ layout drs m = sym (unlisted-unchecked drs m e) in
     let f : layout frs (listedOnly m) ≡ layout frs m = sym (unlisted-unchecked frs m e) in
-    simp (d, f) (either (layout frs m) (λ t. simp (eq-eqb (byteAt m 0) frs (laid frs m t .byte-0), mod-mod)) (λ n. simp n))
+    simp (d, f) (split (layout frs m) (λ t. simp (eq-eqb (byteAt m 0) frs (laid frs m t .byte-0), mod-mod)) (λ n. simp n))
 
 -- So two messages of 16 bytes that agree in what is listed read the same.
 pub same-listed-same-reading : (m n : List ℕ) → length m ≡ 16 → length n ≡ 16 → listedOnly m ≡ listedOnly n → readMessage m ≡ readMessage n
@@ -45,7 +46,7 @@ other-length m n = simp (ne-eqb (length m) 16 n)
 -- A reading that isn't 19 is of 16 bytes.
 pub read-is-16 : (m : List ℕ) → readingOf (readMessage m) .number ≡ 0 → length m ≡ 16
 read-is-16 m e =
-    either (eqb (length m) 16) (λ t. eqb-true (length m) 16 t)
+    split (eqb (length m) 16) (λ t. eqb-true (length m) 16 t)
     (λ f. let z : 19 ≡ 0 = sym (ap (λ (r : Message). readingOf r .number) (other-length m (eqb-false (length m) 16 f))) ∙ e in absurd (omega arith))
 
 -- The requester ID has 16 bits.
@@ -53,11 +54,11 @@ pub id-bound : (m : List ℕ) → Bytes m → readingOf (readMessage m) .id < 65
 id-bound m b = cases (λ (r : Message). readingOf r .id < 65536) m (λ l. omega (arith, b 4, b 5)) (λ l a. omega (arith, b 4, b 5)) (omega arith)
 
 -- The reason of an FRS is one that it may have.
-pub reason-allowed : (m : List ℕ) (id reason : ℕ) → readMessage m ≡ Frs id reason → reasonAllowed reason ≡ true
+pub reason-allowed : (m : List ℕ) (id reason : ℕ) → readMessage m ≡ Frs id reason → frsAllowed reason ≡ true
 reason-allowed m id reason =
-    cases (λ (r : Message). r ≡ Frs id reason → reasonAllowed reason ≡ true) m
+    cases (λ (r : Message). r ≡ Frs id reason → frsAllowed reason ≡ true) m
     (λ l e. let z : _≡_ {A = ℕ} 0 1 = cc in absurd (omega arith))
-    (λ l a e. let q : reason ≡ frsReason m = cc in ap reasonAllowed q ∙ a)
+    (λ l a e. let q : reason ≡ frsReason m = cc in ap frsAllowed q ∙ a)
     (λ e. let z : _≡_ {A = ℕ} 0 1 = cc in absurd (omega arith))
 
 -- A reading's reason has four bits.
@@ -81,29 +82,29 @@ unfolding written writable
 drs-reason id reason room n = simp (ne-eqb reason 0 n)
 
 pub above-15 : (kind id reason : ℕ) (room : List ℕ) → 15 < reason → written kind id reason room ≡ left 19 room
-unfolding written writable reasonAllowed
+unfolding written writable frsAllowed
 above-15 kind id reason room h =
     let r : ltb reason 16 ≡ false = le-ltb reason 16 h in
     let z : eqb reason 0 ≡ false = ne-eqb reason 0 (λ e. omega arith) in
-    either (eqb kind drs) (λ t. simp (t, z)) (λ t. simp (t, r, and-false))
+    split (eqb kind drs) (λ t. simp (t, z)) (λ t. simp (t, r, and-false))
 
 pub other-room : (kind id reason : ℕ) (room : List ℕ) → (length room ≡ 16 → ⊥) → written kind id reason room ≡ left 19 room
 unfolding written stored
 other-room kind id reason room n =
-    either (writable kind reason) (λ w. simp (w, ne-eqb (length room) 16 n)) (λ w. simp w)
+    split (writable kind reason) (λ w. simp (w, ne-eqb (length room) 16 n)) (λ w. simp w)
 
 -- .. and else 0.
 pub drs-written : (id : ℕ) (room : List ℕ) → length room ≡ 16 → written drs id 0 room ≡ left 0 (canonical drs id 0)
 unfolding written writable stored
 drs-written id room n = simp (eq-eqb (length room) 16 n)
 
-pub frs-written : (id reason : ℕ) (room : List ℕ) → reasonAllowed reason ≡ true → length room ≡ 16 → written frs id reason room ≡ left 0 (canonical frs id reason)
+pub frs-written : (id reason : ℕ) (room : List ℕ) → frsAllowed reason ≡ true → length room ≡ 16 → written frs id reason room ≡ left 0 (canonical frs id reason)
 unfolding written writable stored
 frs-written id reason room a n = simp (a, eq-eqb (length room) 16 n)
 
 -- All sixteen reasons are allowed.
-pub any-reason : (reason : ℕ) → reason ≤ 15 → reasonAllowed reason ≡ true
-unfolding reasonAllowed
+pub any-reason : (reason : ℕ) → reason ≤ 15 → frsAllowed reason ≡ true
+unfolding frsAllowed
 any-reason reason h = lt-ltb reason 16 (omega arith)
 
 -- BOTH

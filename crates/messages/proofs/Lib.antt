@@ -1,4 +1,3 @@
-pub mod Front
 pub mod Laid
 pub mod Cases
 pub mod Laws

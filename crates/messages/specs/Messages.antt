@@ -51,12 +51,12 @@ layout kind m =
     && eqb (byteAt m 12) (subtypeOf kind)
 
 -- the reasons that an FRS may have: any four bits
-unfoldable pub reasonAllowed : ℕ → Bool
-reasonAllowed reason = ltb reason 16
+unfoldable pub frsAllowed : ℕ → Bool
+frsAllowed reason = ltb reason 16
 
 -- an FRS with its ID and reason
 unfoldable pub frsWith : ℕ → ℕ → Message
-frsWith id reason = cond (reasonAllowed reason) (Frs id reason) NotReadiness
+frsWith id reason = cond (frsAllowed reason) (Frs id reason) NotReadiness
 
 -- what a message is read as, at every length and content
 unfoldable pub readMessage : List ℕ → Message
@@ -81,7 +81,7 @@ readingOf NotReadiness = reading 19 0 0 0
 
 -- a kind and a reason that can be written: a DRS with reason 0, an FRS with a reason that it may have, and no other kind
 unfoldable pub writable : ℕ → ℕ → Bool
-writable kind reason = cond (eqb kind drs) (eqb reason 0) (eqb kind frs && reasonAllowed reason)
+writable kind reason = cond (eqb kind drs) (eqb reason 0) (eqb kind frs && frsAllowed reason)
 
 -- the 16 bytes of a message: what isn't listed is written as 0
 unfoldable pub canonical : ℕ → ℕ → ℕ → List ℕ

@@ -1,7 +1,9 @@
 // Readiness messages of 16 bytes: DRS and FRS, read and written.
 ghost use mathlib.Core.Path.{_≡_};
 ghost use lib.ListN.{getD};
-ghost use Rattle.messages.specs.Messages.{trafficClass, requesterId, frsReason, subtypeOf, layout, reasonAllowed, frsWith, readMessage, writable, canonical, left, stored, written};
+ghost use Rattle.messages.specs.Messages.{trafficClass, requesterId, frsReason, subtypeOf, layout, frsAllowed, frsWith, readMessage, writable, canonical, left, stored, written};
+use bits::byte_at;
+use bits::u16_of_u8;
 
 // What a message is read as.
 pub enum Message {
@@ -21,13 +23,6 @@ pub const FRS: u8 = 0x30;
 // The number for what is no readiness message.
 pub const NOT_READINESS: u8 = 19;
 
-// A byte of a message, and 0 past its end.
-fn byte_at(bytes: &[u8], at: usize) -> u8
-    ensures { λ r. ⌜ r ≡ getD (now (bytes .entry)) at 0 ⌝ }
-{
-    if at < bytes.len() { bytes[at] } else { 0 }
-}
-
 // Byte 12 of each kind.
 fn subtype_of(kind: u8) -> u8
     ensures { λ r. ⌜ r ≡ subtypeOf kind ⌝ }
@@ -42,17 +37,11 @@ fn traffic_class(bytes: &[u8]) -> u8
     byte_at(bytes, 1) / 16 % 8
 }
 
-fn wide(x: u8) -> u16
-    ensures { λ r. ⌜ r ≡ x ⌝ }
-{
-    x as u16
-}
-
 // Bytes 4 and 5, high byte first.
 fn requester_id(bytes: &[u8]) -> u16
     ensures { λ r. ⌜ r ≡ requesterId (now (bytes .entry)) ⌝ }
 {
-    wide(byte_at(bytes, 4)) * 256 + wide(byte_at(bytes, 5))
+    u16_of_u8(byte_at(bytes, 4)) * 256 + u16_of_u8(byte_at(bytes, 5))
 }
 
 // Byte 15 bits 3:0.
@@ -62,22 +51,26 @@ fn frs_reason(bytes: &[u8]) -> u8
     byte_at(bytes, 15) % 16
 }
 
-// Everything that is checked of a message of the kind; the rest is ignored.
+// Everything that is checked of a message of the kind, byte 0 first; the rest is ignored.
 fn has_layout(kind: u8, bytes: &[u8]) -> bool
     ensures { λ r. ⌜ r ≡ layout kind (now (bytes .entry)) ⌝ }
 {
-    (bytes.len() == 16)
-        & (byte_at(bytes, 0) == kind)
-        & (traffic_class(bytes) == 0)
-        & (byte_at(bytes, 7) == 0x7F)
-        & (byte_at(bytes, 10) == 0x00)
-        & (byte_at(bytes, 11) == 0x01)
-        & (byte_at(bytes, 12) == subtype_of(kind))
+    let first = byte_at(bytes, 0);
+    if first == kind {
+        return (bytes.len() == 16)
+            & (first == kind)
+            & (traffic_class(bytes) == 0)
+            & (byte_at(bytes, 7) == 0x7F)
+            & (byte_at(bytes, 10) == 0x00)
+            & (byte_at(bytes, 11) == 0x01)
+            & (byte_at(bytes, 12) == subtype_of(kind));
+    }
+    false
 }
 
 // The reasons that an FRS may have.
-fn reason_allowed(reason: u8) -> bool
-    ensures { λ r. ⌜ r ≡ reasonAllowed reason ⌝ }
+pub fn frs_allowed(reason: u8) -> bool
+    ensures { λ r. ⌜ r ≡ frsAllowed reason ⌝ }
 {
     reason < 16
 }
@@ -85,7 +78,7 @@ fn reason_allowed(reason: u8) -> bool
 fn frs_with(id: u16, reason: u8) -> Message
     ensures { λ r. ⌜ r ≡ frsWith id reason ⌝ }
 {
-    if reason_allowed(reason) {
+    if frs_allowed(reason) {
         Message::Frs(id, reason)
     } else {
         Message::NotReadiness
@@ -113,7 +106,7 @@ fn is_writable(kind: u8, reason: u8) -> bool
         return reason == 0;
     }
     if kind == FRS {
-        return reason_allowed(reason);
+        return frs_allowed(reason);
     }
     false
 }

@@ -1,5 +1,6 @@
 // `otsnebura run CARD TRACE`: the card is set up, the trace is fed, and the end is printed.
 use crate::options::Options;
+use bits::at_most;
 use cards::refusal::complain_refusal;
 use desk::files::after_printing;
 use desk::files::complain_read;
@@ -10,7 +11,6 @@ use desk::printing::flush;
 use desk::printing::flush_out;
 use desk::trace_file::PIECE;
 use desk::trace_file::complain_fault;
-use line_text::numbers::at_most;
 use readiness::Setup;
 use runs::ending::print_ending;
 use runs::session::Session;

@@ -3,18 +3,16 @@ ghost use mathlib.Core.Path.{_≡_};
 ghost use Prim.Native.Nat.{_<_, _≤_};
 ghost use lib.ListN.{replicate};
 ghost use Rattle.readiness.specs.Status.{down};
+ghost use Rattle.records.specs.Blank.{blankPort};
 ghost use Rattle.demand3.specs.Held.{held, lentOf};
-ghost use Rattle.demand3.specs.SettingUp.{freshDev, freshPort};
 ghost use Rattle.feed.specs.Left.{left};
 ghost use Rattle.in_pieces.specs.Pieces.{pieceOf, inPieces, runsOn};
 use feed::Fed;
-use frs_queue::Queue;
-use image::state::all_down;
-use readiness::Control;
-use readiness::Dev;
 use readiness::Setup;
 use readiness::Status;
+use readiness::all_down;
 use records::Port;
+use records::blank_port;
 use settle::phases::in_numbers;
 use settle::phases::in_statuses;
 
@@ -87,40 +85,6 @@ fn feed_pieces(
     all_fed(number, consumed, written, port, in_statuses(phases))
 }
 
-// A device and a port with every number 0 and every bit off.
-fn zero_dev() -> Dev
-    ensures { λ r. ⌜ r ≡ freshDev ⌝ }
-{
-    Dev {
-        clock: times::nanos_of(0),
-        link: false,
-        owed: false,
-        drs_received: false,
-        control: Control {
-            visibility: false,
-            frs_interrupt: false,
-            signalling: 0,
-        },
-        queue: Queue {
-            start: 0,
-            depth: 0,
-            received: false,
-            overflow: false,
-        },
-    }
-}
-
-fn zero_port() -> Port
-    ensures { λ r. ⌜ r ≡ freshPort ⌝ }
-{
-    Port {
-        dev: zero_dev(),
-        carried: [0; 16],
-        carried_len: 0,
-        broken: false,
-    }
-}
-
 // Set-up, and then the trace in pieces; a set-up that is refused gets none of it.
 pub fn run_over(
     setup: Setup,
@@ -132,11 +96,11 @@ pub fn run_over(
     answers: &mut [u8],
 ) -> Fed
     ensures { λ r. ⌜ left (setup .slots) r (now (live .exit)) (now (cells .exit)) (now (answers .exit))
-        ≡ runsOn setup (now (defaults .entry)) size (held freshPort (lentOf (setup .slots) (replicate 32 down)) (now (live .entry)) (now (cells .entry))) (now (trace .entry)) (now (answers .entry)) ⌝ }
+        ≡ runsOn setup (now (defaults .entry)) size (held blankPort (lentOf (setup .slots) (replicate 32 down)) (now (live .entry)) (now (cells .entry))) (now (trace .entry)) (now (answers .entry)) ⌝ }
 {
     let made = set_up::set_up(
         setup,
-        zero_port(),
+        blank_port(),
         all_down(),
         setup.slots,
         &mut *live,

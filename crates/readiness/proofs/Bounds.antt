@@ -10,6 +10,7 @@ use lib.Dec.{leb, ltb}
 use lib.ListN.{length, getD, drop, set, replicate, drop-of-length-le}
 use lib.Seq.{drop-cons}
 use borrow.Author.Tests.{leb-true, leb-false, lt-leb}
+use Rattle.bits.proofs.Choices.{either-way}
 use Rattle.times.specs.declared.Nanos.{Nanos}
 use Rattle.times.specs.Moments.{greatestNanos, leastOf}
 use Rattle.readiness.specs.declared.Cause.{Cause}
@@ -17,11 +18,12 @@ use Rattle.readiness.specs.declared.Phase.{Phase}
 use Rattle.readiness.specs.declared.Phase.the-variants.{Down, Pending, Ready}
 use Rattle.readiness.specs.declared.Status.{Status}
 use Rattle.readiness.specs.declared.Setup.{Setup}
+use Rattle.readiness.specs.declared.Dev.{Dev}
 use Rattle.readiness.specs.Status.{ready, eachFrom, stoppedByReset}
 use Rattle.readiness.specs.Events.{Event, dueEvent, insertAll, dueFrom, due}
 use Rattle.readiness.specs.Settle.{Scene, happenAll, drsDue, tells, settles}
 use Rattle.readiness.specs.Earliest.{never, readyTime, earliestReady, PhaseFrom, ReadyFrom}
-use Rattle.readiness.proofs.Order.{either-way, phaseBy, readyBy}
+use Rattle.readiness.proofs.Order.{phaseBy, readyBy}
 use Rattle.readiness.proofs.Scenes.{settled-statuses}
 use Rattle.readiness.proofs.Laws.{settle-rest}
 
@@ -56,10 +58,10 @@ bound-quiet e clock l b h = quietFrom 0 e clock l b h
 -- Then settling does no more than to tell the DRS that is owed, where all slots are Ready.
 pub bound-tells : (setup : Setup) (e : Nanos) (x : Scene) → ReadyFrom e (x .statuses) → x .root .dev .clock .0 < e .0 → settles setup x ≡ tells setup x
 unfolding settles happenAll
-bound-tells setup e x b h = ap (λ (es : List Event). tells setup (happenAll setup es x)) (bound-quiet e (x .root .dev .clock) (x .statuses) b h)
+bound-tells setup e x b h = ap (λ (es : List Event). happenAll setup es (tells setup x)) (bound-quiet e (x .root .dev .clock) (x .statuses) b h)
 
 -- And where no DRS is due either, it changes nothing.
-pub bound-rests : (setup : Setup) (e : Nanos) (x : Scene) → ReadyFrom e (x .statuses) → x .root .dev .clock .0 < e .0 → drsDue x ≡ false → settles setup x ≡ x
+pub bound-rests : (setup : Setup) (e : Nanos) (x : Scene) → ReadyFrom e (x .statuses) → x .root .dev .clock .0 < e .0 → drsDue setup x ≡ false → settles setup x ≡ x
 bound-rests setup e x b h d = settle-rest setup x (bound-quiet e (x .root .dev .clock) (x .statuses) b h) d
 
 -- ---- the earliest ready time is a bound, and the greatest
@@ -128,8 +130,8 @@ bound-each e k n f (s ∷ l) h b =
     (either-way (λ (r : Status). PhaseFrom e (r .phase)) (ltb k n) (f k) s (λ q. h k) (λ q. b .0), bound-each e (suc k) n f l h (b .1))
 
 -- Link down and cold reset.
-pub bound-stopped : (setup : Setup) (e : Nanos) (l : List Status) → ReadyFrom e l → ReadyFrom e (stoppedByReset setup l)
-bound-stopped setup e l b = bound-each e 0 (setup .slots) _ l (λ slot. tt) b
+pub bound-stopped : (setup : Setup) (dev : Dev) (e : Nanos) (l : List Status) → ReadyFrom e l → ReadyFrom e (stoppedByReset setup dev l)
+bound-stopped setup dev e l b = bound-each e 0 (setup .slots) _ l (λ slot. tt) b
 
 phase-by : (e clock : Nanos) (p : Phase) → PhaseFrom e p → PhaseFrom e (phaseBy clock p)
 phase-by e clock Down b = tt

@@ -9,7 +9,7 @@ use mathlib.Core.Logic.{_≢_, _⊎_, inl, inr, _↔_}
 use mathlib.Core.Path.{_≡_, refl, sym, ap, ap₂, _∙_}
 use lib.Dec.{leb}
 use lib.ListN.{length, getD}
-use borrow.Author.Tests.{lt-ltb, ltb-true, leb-true, leb-false, eqb-true, eq-eqb, ne-eqb}
+use borrow.Author.Tests.{lt-ltb, ltb-true, leb-true, leb-false, eqb-true, eq-eqb, ne-eqb, not-true}
 use Rattle.bits.proofs.Tests.{both-left, both-right}
 use Rattle.times.specs.declared.Nanos.{Nanos}
 use Rattle.times.specs.Codes.{nanosOf}
@@ -91,11 +91,7 @@ drs-sends-none portId d (inr n) = rw (ne-eqb (d .control .signalling) 2 n, and-f
 
 -- The DRS interrupt is raised exactly with signalling 1, if DRS Received goes from 0 to 1.
 pub drs-interrupt-exactly : (d : Dev) → (drsInterrupt d ≡ true) ↔ ((d .«drs_received» ≡ false) × (d .control .signalling ≡ 1))
-drs-interrupt-exactly d = (λ e. (was (d .«drs_received») (both-left _ _ e), eqb-true (d .control .signalling) 1 (both-right (not (d .«drs_received»)) _ e)), λ h. rw (h .0, eq-eqb (d .control .signalling) 1 (h .1)))
-  where
-    was : (b : Bool) → not b ≡ true → b ≡ false
-    was true e = sym e
-    was false e = refl
+drs-interrupt-exactly d = (λ e. (not-true (d .«drs_received») (both-left _ _ e), eqb-true (d .control .signalling) 1 (both-right (not (d .«drs_received»)) _ e)), λ h. rw (h .0, eq-eqb (d .control .signalling) 1 (h .1)))
 
 -- ---- what link up, link down and cold reset leave of the port
 

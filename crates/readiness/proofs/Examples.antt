@@ -14,10 +14,10 @@ use Rattle.readiness.specs.declared.Status.{Status}
 use Rattle.readiness.specs.declared.Slot.{Slot}
 use Rattle.readiness.specs.declared.Setup.{Setup}
 use Rattle.readiness.specs.declared.Dev.{Dev}
-use Rattle.readiness.specs.Status.{down, pending, ready, allReady, eachFrom, readyAfterLinkUp, startedByLinkUp, stoppedByReset, startedByFlr, startedByD3hot, flrInProgress, afterReset, afterLinkDown, afterColdReset, noControl}
+use Rattle.readiness.specs.Status.{down, pending, ready, allReadyFrom, eachFrom, readyAfterLinkUp, startedByLinkUp, stoppedByReset, startedByFlr, startedByD3hot, flrInProgress, afterReset, afterLinkDown, afterColdReset, noControl}
 use Rattle.readiness.specs.Root.{frsArrive, frsOfDrs, drsSet, drsArrives}
-use Rattle.readiness.specs.Events.{insert, insertAll, dueFrom, frsOf, frsOfSlot}
-use Rattle.readiness.specs.Settle.{Scene, happens, happenAll, tells, settles, advances}
+use Rattle.readiness.specs.Events.{Event, insert, insertAll, dueFrom, frsOf, frsOfSlot}
+use Rattle.readiness.specs.Settle.{Scene, happens, happenAll, lastOfMoment, momentEnds, tells, settles, advances}
 
 -- codes 000h, 00Ah, 005h, 000h: DL Up Time 10 ns, FLR Time 5 ns, D3hot time 0 ns
 abbrev pub entry : Bool → Slot
@@ -47,8 +47,14 @@ start d l = record { statuses = l; root = record { dev = d; cells = 0 ∷ 0 ∷ 
 
 -- an advance of that card
 unfoldable pub advanced : ℕ → Scene → Scene
-unfolding advances settles tells happenAll happens frsArrive drsArrives drsSet frsOfDrs frsOf frsOfSlot dueFrom insertAll insert allReady arriveAll arrives queues drops counted placeOf sumOf
+unfolding advances settles tells happenAll momentEnds happens frsArrive drsArrives drsSet frsOfDrs frsOf frsOfSlot dueFrom insertAll insert allReadyFrom arriveAll arrives queues drops counted placeOf sumOf
 advanced n x = advances card (at n) x
+
+-- for three events at these times, whether their moment ends with each
+abbrev pub ends : (a b c : ℕ) → List Bool
+ends a b c =
+    let e : ℕ → Event = λ t. record { slot = 0; cause = LinkUp; time = at t } in
+    lastOfMoment (e a) (e b ∷ e c ∷ []) ∷ lastOfMoment (e b) (e c ∷ []) ∷ lastOfMoment (e c) [] ∷ []
 
 -- the messages in the queue, oldest first
 unfoldable pub held : Scene → List ℕ
@@ -132,6 +138,36 @@ pub drs-waits : advanced 9 (start (dev true false 1) mixed) .root .dev ≡ recor
 unfolding advanced
 drs-waits = refl
 
+-- ---- moment by moment
+
+-- Two slots become Ready at one moment, and the DRS is told after the FRS of both.
+pub drs-after-both : held (advanced 10 (start (dev true false 2) (pending (Flr (at 5)) (at 10) ∷ pending D3hot (at 10) ∷ pending LinkUp (at 8) ∷ []))) ≡ 0x30100 ∷ 0x20101 ∷ 0x10008 ∷ []
+unfolding advanced held
+drs-after-both = refl
+
+-- At the moments before the last one no DRS is told: its FRS comes after those of all three.
+pub drs-at-the-last : held (advanced 20 (start (dev true false 2) (pending (Flr (at 5)) (at 7) ∷ pending D3hot (at 12) ∷ pending LinkUp (at 15) ∷ []))) ≡ 0x30100 ∷ 0x20101 ∷ 0x10008 ∷ []
+unfolding advanced held
+drs-at-the-last = refl
+
+-- A moment ends with the last of its events.
+pub moments-end : ends 7 7 12 ≡ false ∷ true ∷ true ∷ []
+moments-end = refl
+
+-- A DRS that is due at the start is told first: at once, with nothing else to happen;
+pub drs-at-start : held (advanced 0 (start (dev true false 2) (ready ∷ ready ∷ ready ∷ []))) ≡ 0x10008 ∷ []
+unfolding advanced held
+drs-at-start = refl
+
+pub not-owed-then : advanced 0 (start (dev true false 2) (ready ∷ ready ∷ ready ∷ [])) .root .dev .owed ≡ false
+unfolding advanced
+not-owed-then = refl
+
+-- and one that becomes due at a moment is told once.
+pub told-once : advanced 20 (start (dev true false 1) mixed) .root .tally ≡ advanced 10 (start (dev true false 1) mixed) .root .tally
+unfolding advanced
+told-once = refl
+
 -- Link up sends no slot's FRS, nor does a slot that sends none.
 pub link-up-silent : held (advanced 10 (start (dev true false 0) (pending LinkUp (at 10) ∷ pending LinkUp (at 10) ∷ pending (Flr (at 5)) (at 5) ∷ []))) ≡ []
 unfolding advanced held
@@ -165,7 +201,7 @@ unfolding linkUp
 link-up = refl
 
 -- link down or cold reset: every slot Down; a slot past the card's stays
-pub all-down : stoppedByReset card (ready ∷ pending D3hot (at 7) ∷ ready ∷ ready ∷ []) ≡ down ∷ down ∷ down ∷ ready ∷ []
+pub all-down : stoppedByReset card (dev true true 2) (ready ∷ pending D3hot (at 7) ∷ ready ∷ ready ∷ []) ≡ down ∷ down ∷ down ∷ ready ∷ []
 unfolding eachFrom
 all-down = refl
 

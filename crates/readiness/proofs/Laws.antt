@@ -3,20 +3,20 @@
 use Prim.Native.Nat.{ℕ, zero, suc, _+_, _-_, _*_, _≤_, _<_, min}
 use native.Mathlib.Nat.{zero-add}
 use native.Mathlib.Omega.{arith}
-use mathlib.Core.Bool.{Bool, true, false, not, _&&_, _||_, cond, or-false, and-false}
-use mathlib.Core.List.{List, [], _∷_, _++_, map, append-nil, List·Memᴰ, List·Memᴰ·not-nil}
+use mathlib.Core.Bool.{Bool, true, false, not, _&&_, _||_, cond, or-false, or-true, or-assoc, false≢true}
+use mathlib.Core.List.{List, [], _∷_, _++_, map, List·Memᴰ, List·Memᴰ·not-nil}
 use mathlib.Core.Logic.{_↔_}
-use mathlib.Core.Path.{_≡_, refl, sym, ap, _∙_, subst}
+use mathlib.Core.Path.{_≡_, refl, sym, ap, ap₂, _∙_, subst}
 use lib.Dec.{leb, ltb, eqb}
 use lib.ListN.{length, getD, set, take, replicate, length-append}
 use lib.Seq.{set-set}
 use borrow.Author.Tests.{leb-true, leb-false, le-ltb}
+use Rattle.bits.proofs.Choices.{either-way, through}
 use Rattle.times.specs.declared.Nanos.{Nanos}
 use Rattle.frs_queue.specs.declared.Frs.{Frs}
 use Rattle.frs_queue.specs.declared.Tally.{Tally}
 use Rattle.frs_queue.specs.Queue.{Ring, noTally, cellOf, queues, drops, arrives, arriveAll, messagesOf}
 use Rattle.frs_queue.proofs.Laws.{arriveAll-append}
-use Rattle.bits.proofs.Tests.{truth}
 use Rattle.frs_queue.proofs.Several.{Outcome, several}
 use Rattle.readiness.specs.declared.Cause.{Cause}
 use Rattle.readiness.specs.declared.Cause.the-variants.{LinkUp, Flr, D3hot}
@@ -25,12 +25,13 @@ use Rattle.readiness.specs.declared.Phase.the-variants.{Down, Pending, R
 use Rattle.readiness.specs.declared.Status.{Status}
 use Rattle.readiness.specs.declared.Setup.{Setup}
 use Rattle.readiness.specs.declared.Dev.{Dev}
-use Rattle.readiness.specs.Status.{ready, isReady, allReady, entryOf, eachFrom}
+use Rattle.readiness.specs.Status.{ready, isReady, countsForDrs, allReadyFrom, allReady, entryOf, eachFrom}
+use Rattle.readiness.specs.Fields.{withDrsReceived}
 use Rattle.readiness.specs.Root.{Root, ringOf, frsArrive, frsOfDrs, drsInterrupt, drsSet, drsArrives}
 use Rattle.readiness.specs.Events.{Event, dueEvent, due, frsOf, frsOfSlot, frsReason, frsWith, functionId}
-use Rattle.readiness.specs.Settle.{Scene, SlotScene, happens, happenAll, drsDue, tells, settles, framesOf, frsSent, slotHappens, slotSettles}
-use Rattle.readiness.proofs.Order.{Awaited, Ordered, Once, each-mem, either-way, through, setReady, dueFrom-sound, dueFrom-complete, dueFrom-ordered, dueFrom-once, due-rest, due-length, due-padded, due-set, all-ready-replicate, ordered-unique}
-use Rattle.readiness.proofs.Scenes.{happenAll-is, happened, told, Kept, fresh, settled-kept, settled-statuses}
+use Rattle.readiness.specs.Settle.{Scene, SlotScene, happens, happenAll, lastOfMoment, momentEnds, drsDue, tells, settles, frsTold, frsEnding, framesOf, frsSent, slotHappens, slotSettles}
+use Rattle.readiness.proofs.Order.{Awaited, Ordered, Once, each-mem, readyBy, setReady, dueFrom-sound, dueFrom-complete, dueFrom-ordered, dueFrom-once, due-ready, due-rest, due-length, due-padded, due-set, ordered-unique}
+use Rattle.readiness.proofs.Scenes.{told, Kept, fresh, step-kept, tells-kept, settled-kept, settled-statuses}
 
 -- ---- the order of events
 
@@ -67,10 +68,14 @@ due-unique clock l es h =
 
 -- ---- where settling rests
 
+pub tells-quiet : (setup : Setup) (x : Scene) → drsDue setup x ≡ false → tells setup x ≡ x
+unfolding tells
+tells-quiet setup x e = ap (λ (b : Bool). cond b (told setup x) x) e
+
 -- Where nothing is due and no DRS is to be told, settling changes nothing.
-pub settle-rest : (setup : Setup) (x : Scene) → due (x .root .dev .clock) (x .statuses) ≡ [] → drsDue x ≡ false → settles setup x ≡ x
-unfolding settles tells happenAll
-settle-rest setup x e d = ap (λ (es : List Event). tells setup (happenAll setup es x)) e ∙ ap (λ (b : Bool). cond b (told setup x) x) d
+pub settle-rest : (setup : Setup) (x : Scene) → due (x .root .dev .clock) (x .statuses) ≡ [] → drsDue setup x ≡ false → settles setup x ≡ x
+unfolding settles happenAll
+settle-rest setup x e d = ap (λ (es : List Event). happenAll setup es (tells setup x)) e ∙ tells-quiet setup x d
 
 -- After settling nothing is due.
 pub settled-due : (setup : Setup) (x : Scene) → due (settles setup x .root .dev .clock) (settles setup x .statuses) ≡ []
@@ -95,14 +100,25 @@ settled-pending setup x k c t e = by (leb (t .0) (clock .0)) refl
     by false h = leb-false (t .0) (clock .0) h
 
 -- A DRS that was told is no longer owed, and none is told that isn't to be.
-pub tells-drs : (setup : Setup) (x : Scene) → drsDue (tells setup x) ≡ false
+pub tells-drs : (setup : Setup) (x : Scene) → drsDue setup (tells setup x) ≡ false
 unfolding tells
-tells-drs setup x = either-way (λ (y : Scene). drsDue y ≡ false) (drsDue x) (told setup x) x (λ e. refl) (λ e. e)
+tells-drs setup x = either-way (λ (y : Scene). drsDue setup y ≡ false) (drsDue setup x) (told setup x) x (λ e. refl) (λ e. e)
 
--- After settling nothing is owed with all slots Ready.
-pub settled-drs : (setup : Setup) (x : Scene) → drsDue (settles setup x) ≡ false
+-- The last event's moment ends with it.
+happenAll-last : (setup : Setup) (e : Event) (es : List Event) (x : Scene) → drsDue setup (happenAll setup (e ∷ es) x) ≡ false
+unfolding happenAll momentEnds
+happenAll-last setup e [] x = tells-drs setup (happens setup e x)
+happenAll-last setup e (f ∷ es) x = happenAll-last setup f es (momentEnds setup e (f ∷ es) (happens setup e x))
+
+pub happenAll-drs : (setup : Setup) (es : List Event) (x : Scene) → drsDue setup x ≡ false → drsDue setup (happenAll setup es x) ≡ false
+unfolding happenAll
+happenAll-drs setup [] x d = d
+happenAll-drs setup (e ∷ es) x d = happenAll-last setup e es x
+
+-- After settling nothing is owed with all slots Ready that count.
+pub settled-drs : (setup : Setup) (x : Scene) → drsDue setup (settles setup x) ≡ false
 unfolding settles
-settled-drs setup x = tells-drs setup (happened setup x)
+settled-drs setup x = happenAll-drs setup _ (tells setup x) (tells-drs setup x)
 
 -- Settling is idempotent: a second time it changes nothing and brings nothing.
 pub settle-again : (setup : Setup) (x : Scene) → settles setup (fresh (settles setup x)) ≡ fresh (settles setup x)
@@ -136,45 +152,150 @@ arriveAll-drs raised enabled (frs ∷ more) r = ap (arriveAll enabled more) (arr
 no-drs : (r : Ring) → r ≡ withDrs false r
 no-drs r = simp or-false
 
--- the DRS interrupt is raised by settling: a DRS is owed, all slots are Ready once all that is due has happened, and DRS Received goes from 0 to 1 with signalling 1
+drs-twice : (a b : Bool) (r : Ring) → withDrs b (withDrs a r) ≡ withDrs (a || b) r
+drs-twice a b r = simp or-assoc
+
+-- messages with the DRS interrupt raised or not, and then others
+ring-then : (on a b : Bool) (f g : List Frs) (r : Ring) → withDrs b (arriveAll on g (withDrs a (arriveAll on f r))) ≡ withDrs (a || b) (arriveAll on (f ++ g) r)
+ring-then on a b f g r =
+    ap (withDrs b) (arriveAll-drs a on g (arriveAll on f r))
+    ∙ drs-twice a b (arriveAll on g (arriveAll on f r))
+    ∙ ap (withDrs (a || b)) (sym (arriveAll-append on f g r))
+
+-- the DRS interrupt is raised as a DRS is told
+abbrev raised : Setup → Scene → Bool
+raised setup x = drsDue setup x && drsInterrupt (x .root .dev)
+
+abbrev on : Scene → Bool
+on x = x .root .dev .control .«frs_interrupt»
+
+tells-ring : (setup : Setup) (x : Scene) → ringOf (tells setup x .root) ≡ withDrs (raised setup x) (arriveAll (on x) (frsTold setup x) (ringOf (x .root)))
+unfolding tells frsTold frsArrive drsArrives drsSet frsOfDrs arriveAll
+tells-ring setup x = by (drsDue setup x)
+  where
+    by : (b : Bool) → ringOf (cond b (told setup x) x .root) ≡ withDrs (b && drsInterrupt (x .root .dev)) (arriveAll (on x) (cond b (frsOfDrs (setup .«port_id») (x .root .dev)) []) (ringOf (x .root)))
+    by true = arriveAll-drs (drsInterrupt (x .root .dev)) (on x) (frsOfDrs (setup .«port_id») (x .root .dev)) (ringOf (x .root))
+    by false = no-drs (ringOf (x .root))
+
+abbrev endRaised : Setup → Event → List Event → Scene → Bool
+endRaised setup e es x = lastOfMoment e es && raised setup x
+
+ends-ring : (setup : Setup) (e : Event) (es : List Event) (x : Scene)
+    → ringOf (momentEnds setup e es x .root) ≡ withDrs (endRaised setup e es x) (arriveAll (on x) (frsEnding setup e es x) (ringOf (x .root)))
+unfolding momentEnds frsEnding arriveAll
+ends-ring setup e es x = by (lastOfMoment e es)
+  where
+    by : (b : Bool) → ringOf (cond b (tells setup x) x .root) ≡ withDrs (b && raised setup x) (arriveAll (on x) (cond b (frsTold setup x) []) (ringOf (x .root)))
+    by true = tells-ring setup x
+    by false = no-drs (ringOf (x .root))
+
+-- one event and the end of its moment
+step-ring : (setup : Setup) (e : Event) (es : List Event) (x : Scene)
+    → (let y = happens setup e x in
+    ringOf (momentEnds setup e es y .root) ≡ withDrs (endRaised setup e es y) (arriveAll (on x) (frsOf setup e ++ frsEnding setup e es y) (ringOf (x .root))))
+unfolding happens frsArrive
+step-ring setup e es x =
+    let y = happens setup e x in
+    ends-ring setup e es y ∙ ap (withDrs (endRaised setup e es y)) (sym (arriveAll-append (on x) (frsOf setup e) (frsEnding setup e es y) (ringOf (x .root))))
+
+unfoldable raisedAll : Setup → List Event → Scene → Bool
+raisedAll setup [] x = false
+raisedAll setup (e ∷ es) x =
+    let y = happens setup e x in
+    endRaised setup e es y || raisedAll setup es (momentEnds setup e es y)
+
+happenAll-ring : (setup : Setup) (es : List Event) (x : Scene)
+    → ringOf (happenAll setup es x .root) ≡ withDrs (raisedAll setup es x) (arriveAll (on x) (framesOf setup es x) (ringOf (x .root)))
+unfolding happenAll raisedAll framesOf arriveAll
+happenAll-ring setup [] x = no-drs (ringOf (x .root))
+happenAll-ring setup (e ∷ es) x =
+    let y = happens setup e x in
+    let z = momentEnds setup e es y in
+    happenAll-ring setup es z
+    ∙ ap₂ (λ (b : Bool) (r : Ring). withDrs (raisedAll setup es z) (arriveAll b (framesOf setup es z) r)) (ap (λ c. c .«frs_interrupt») (step-kept setup e es x .control)) (step-ring setup e es x)
+    ∙ ring-then (on x) (endRaised setup e es y) (raisedAll setup es z) (frsOf setup e ++ frsEnding setup e es y) (framesOf setup es z) (ringOf (x .root))
+
+-- ---- the DRS is told at most once in a settle: when all slots that count are Ready once all has happened
+
+and-each : (a b c d : Bool) → (a ≡ true → c ≡ true) → (b ≡ true → d ≡ true) → (a && b) ≡ true → (c && d) ≡ true
+and-each true b c d f g e = rw (f refl) (g e)
+and-each false b c d f g e = absurd (false≢true e)
+
+or-right : (n a b : Bool) → (a ≡ true → b ≡ true) → (n || a) ≡ true → (n || b) ≡ true
+or-right true a b f e = refl
+or-right false a b f e = f e
+
+and-left : (a b : Bool) → (a && b) ≡ true → a ≡ true
+and-left true b e = refl
+and-left false b e = e
+
+and-right : (a b : Bool) → (a && b) ≡ true → b ≡ true
+and-right true b e = e
+and-right false b e = absurd (false≢true e)
+
+made-ready : (setup : Setup) (k : ℕ) (l : List Status) (i : ℕ) → allReadyFrom setup k l ≡ true → allReadyFrom setup k (set l i ready) ≡ true
+unfolding allReadyFrom
+made-ready setup k [] i e = refl
+made-ready setup k (s ∷ l) zero e =
+    let n = not (countsForDrs setup k) in
+    and-each (n || isReady s) (allReadyFrom setup (suc k) l) (n || true) (allReadyFrom setup (suc k) l) (or-right n (isReady s) true (λ q. refl)) (λ q. q) e
+made-ready setup k (s ∷ l) (suc i) e =
+    let b = not (countsForDrs setup k) || isReady s in
+    and-each b (allReadyFrom setup (suc k) l) b (allReadyFrom setup (suc k) (set l i ready)) (λ q. q) (made-ready setup (suc k) l i) e
+
+-- Slots that are Ready stay so, whatever happens by itself.
+pub all-made-ready : (setup : Setup) (es : List Event) (l : List Status) → allReady setup l ≡ true → allReady setup (setReady es l) ≡ true
+unfolding setReady
+all-made-ready setup [] l e = e
+all-made-ready setup (v ∷ es) l e = all-made-ready setup es (set l (v .slot) ready) (made-ready setup 0 l (v .slot) e)
+
+-- a DRS is owed, all slots that count are Ready once these events have happened, and DRS Received goes from 0 to 1 with signalling 1
+abbrev raisedBy : Setup → List Event → Scene → Bool
+raisedBy setup es x = (x .root .dev .owed && allReady setup (setReady es (x .statuses))) && drsInterrupt (x .root .dev)
+
+told-raised : (setup : Setup) (es : List Event) (x : Scene) → (raised setup x || raisedBy setup es (tells setup x)) ≡ raisedBy setup es x
+unfolding tells
+told-raised setup es x = by (drsDue setup x) refl
+  where
+    by : (d : Bool) → drsDue setup x ≡ d → ((d && drsInterrupt (x .root .dev)) || raisedBy setup es (cond d (told setup x) x)) ≡ raisedBy setup es x
+    by false e = refl
+    by true e =
+        or-false (drsInterrupt (x .root .dev))
+        ∙ sym (ap (λ (b : Bool). b && drsInterrupt (x .root .dev))
+        (and-each (x .root .dev .owed) (allReady setup (x .statuses)) (x .root .dev .owed) (allReady setup (setReady es (x .statuses))) (λ q. q) (all-made-ready setup es (x .statuses)) e))
+
+raised-cons : (setup : Setup) (e : Event) (es : List Event) (x : Scene) → raisedAll setup (e ∷ es) x ≡ raisedBy setup (e ∷ es) x
+unfolding raisedAll momentEnds setReady happens frsArrive
+raised-cons setup e [] x = or-false (raised setup (happens setup e x))
+raised-cons setup e (f ∷ es) x =
+    let y = happens setup e x in
+    ap (λ (b : Bool). endRaised setup e (f ∷ es) y || b) (raised-cons setup f es (momentEnds setup e (f ∷ es) y)) ∙ by (lastOfMoment e (f ∷ es))
+  where
+    by : (b : Bool) → (let y = happens setup e x in ((b && raised setup y) || raisedBy setup (f ∷ es) (cond b (tells setup y) y)) ≡ raisedBy setup (f ∷ es) y)
+    by true = told-raised setup (f ∷ es) (happens setup e x)
+    by false = refl
+
+raised-all : (setup : Setup) (es : List Event) (x : Scene) → (raised setup x || raisedAll setup es (tells setup x)) ≡ raisedBy setup es x
+unfolding raisedAll setReady
+raised-all setup [] x = or-false (raised setup x)
+raised-all setup (e ∷ es) x = ap (λ (b : Bool). raised setup x || b) (raised-cons setup e es (tells setup x)) ∙ told-raised setup (e ∷ es) x
+
+-- the DRS interrupt is raised by settling: a DRS is owed, all slots that count are Ready once all that is due has happened, and DRS Received goes from 0 to 1 with signalling 1
 abbrev pub drsRaised : Setup → Scene → Bool
-drsRaised setup x = drsDue (happened setup x) && drsInterrupt (x .root .dev)
+drsRaised setup x = (x .root .dev .owed && allReady setup (readyBy (x .root .dev .clock) (x .statuses))) && drsInterrupt (x .root .dev)
 
-module _ (setup : Setup) (x : Scene) (frames : List Frs) (l : List Status) where
-  abbrev enabled : Bool
-  enabled = x .root .dev .control .«frs_interrupt»
-
-  -- the slots' messages have arrived
-  abbrev arrived : Scene
-  arrived = record { statuses = l; root = frsArrive frames (x .root) }
-
-  -- the port's own message
-  abbrev own : List Frs
-  own = frsOfDrs (setup .«port_id») (x .root .dev)
-
-  tells-messages : (b : Bool)
-      → ringOf (cond b (told setup arrived) arrived .root) ≡ withDrs (b && drsInterrupt (x .root .dev)) (arriveAll enabled (frames ++ cond b own []) (ringOf (x .root)))
-  unfolding frsArrive drsArrives drsSet frsOfDrs
-  tells-messages true =
-      arriveAll-drs (drsInterrupt (x .root .dev)) enabled own (arriveAll enabled frames (ringOf (x .root)))
-      ∙ ap (withDrs (drsInterrupt (x .root .dev))) (sym (arriveAll-append enabled frames own (ringOf (x .root))))
-  tells-messages false =
-      no-drs (arriveAll enabled frames (ringOf (x .root)))
-      ∙ ap (λ (m : List Frs). withDrs false (arriveAll enabled m (ringOf (x .root)))) (sym (append-nil frames))
-
--- The messages that one settle sends are exactly those of `frsSent`, in that order: those of the slots that become Ready, in their order, and the port's own with reason 1, if any, last.
+-- The messages that one settle sends are exactly those of `frsSent`, in that order.
 pub settle-messages : (setup : Setup) (x : Scene)
     → ringOf (settles setup x .root) ≡ withDrs (drsRaised setup x) (arriveAll (x .root .dev .control .«frs_interrupt») (frsSent setup x) (ringOf (x .root)))
-unfolding settles tells frsSent
+unfolding settles frsSent
 settle-messages setup x =
     let es = due (x .root .dev .clock) (x .statuses) in
-    let frames = framesOf setup es in
-    let d = x .root .dev in
-    subst
-    (λ (z : Scene).
-    ringOf (tells setup z .root)
-    ≡ withDrs (drsDue z && drsInterrupt d) (arriveAll (d .control .«frs_interrupt») (frames ++ cond (drsDue z) (frsOfDrs (setup .«port_id») d) []) (ringOf (x .root))))
-    (sym (happenAll-is setup es x)) (tells-messages setup x frames (setReady es (x .statuses)) (drsDue (arrived setup x frames (setReady es (x .statuses)))))
+    let y = tells setup x in
+    happenAll-ring setup es y
+    ∙ ap₂ (λ (b : Bool) (r : Ring). withDrs (raisedAll setup es y) (arriveAll b (framesOf setup es y) r)) (ap (λ c. c .«frs_interrupt») (tells-kept setup x .control)) (tells-ring setup x)
+    ∙ ring-then (on x) (raised setup x) (raisedAll setup es y) (frsTold setup x) (framesOf setup es y) (ringOf (x .root))
+    ∙ ap (λ (b : Bool). withDrs b (arriveAll (on x) (frsTold setup x ++ framesOf setup es y) (ringOf (x .root))))
+    (raised-all setup es x ∙ ap (λ (l : List Status). (x .root .dev .owed && allReady setup l) && drsInterrupt (x .root .dev)) (due-ready (x .root .dev .clock) (x .statuses)))
 
 -- After link up no slot's FRS arrives, nor ever one of a slot that sends none.
 pub frs-after-link-up : (setup : Setup) (slot : ℕ) (t : Nanos) → frsOf setup (record { slot = slot; cause = LinkUp; time = t }) ≡ []
@@ -204,10 +325,9 @@ drs-again portId x e =
   where
     with : (received raised : Bool) → Root
     with received raised =
-        let d = x .dev in
         let t = x .tally in
         record {
-          dev = record { clock = d .clock; link = d .link; owed = d .owed; «drs_received» = received; control = d .control; queue = d .queue };
+          dev = withDrsReceived (x .dev) received;
           cells = x .cells;
           tally = record { received = t .received; overflow = t .overflow; drs = raised; queued = t .queued; dropped = t .dropped };
         }
@@ -224,30 +344,72 @@ frsOf-length setup e =
     either-way (λ (m : List Frs). length m ≤ 1) (entryOf setup (e .slot) .«sends_frs») (frsWith (functionId (setup .bus) (e .slot)) (frsReason (e .cause))) []
     (λ b. frsWith-length (functionId (setup .bus) (e .slot)) (e .cause)) (λ b. omega arith)
 
-framesOf-length : (setup : Setup) (es : List Event) → length (framesOf setup es) ≤ length es
-unfolding framesOf
-framesOf-length setup [] = omega arith
-framesOf-length setup (e ∷ es) = omega (arith, length-append (frsOf setup e) (framesOf setup es), frsOf-length setup e, framesOf-length setup es)
-
-own-length : (setup : Setup) (b : Bool) (d : Dev) → length (cond b (frsOfDrs (setup .«port_id») d) []) ≤ 1
+own-length : (setup : Setup) (d : Dev) → length (frsOfDrs (setup .«port_id») d) ≤ 1
 unfolding frsOfDrs
-own-length setup b d =
-    either-way (λ (m : List Frs). length m ≤ 1) b (frsOfDrs (setup .«port_id») d) []
-    (λ e. either-way (λ (m : List Frs). length m ≤ 1) (not (d .«drs_received») && eqb (d .control .signalling) 2) _ _ (λ t. omega arith) (λ t. omega arith))
-    (λ e. omega arith)
+own-length setup d =
+    either-way (λ (m : List Frs). length m ≤ 1) (not (d .«drs_received») && eqb (d .control .signalling) 2) (record { id = setup .«port_id»; reason = 1 } ∷ []) [] (λ t. omega arith) (λ t. omega arith)
 
--- One settle sends at most one message for each slot, and the port's own.
-pub frsSent-most : (setup : Setup) (x : Scene) → length (frsSent setup x) ≤ length (x .statuses) + 1
+-- one that is owed can be told, and then is not owed
+abbrev owes : Scene → ℕ
+owes x = cond (x .root .dev .owed) 1 0
+
+told-length : (setup : Setup) (x : Scene) → length (frsTold setup x) + owes (tells setup x) ≤ owes x
+unfolding frsTold tells
+told-length setup x = by (drsDue setup x) refl
+  where
+    by : (b : Bool) → drsDue setup x ≡ b → length (cond b (frsOfDrs (setup .«port_id») (x .root .dev)) []) + owes (cond b (told setup x) x) ≤ owes x
+    by true e =
+        let o : owes x ≡ 1 = ap (λ (b : Bool). cond b 1 0) (and-left (x .root .dev .owed) (allReady setup (x .statuses)) e) in
+        omega (arith, own-length setup (x .root .dev))
+    by false e = omega arith
+
+ends-length : (setup : Setup) (e : Event) (es : List Event) (x : Scene) → length (frsEnding setup e es x) + owes (momentEnds setup e es x) ≤ owes x
+unfolding frsEnding momentEnds
+ends-length setup e es x = by (lastOfMoment e es)
+  where
+    by : (b : Bool) → length (cond b (frsTold setup x) []) + owes (cond b (tells setup x) x) ≤ owes x
+    by true = told-length setup x
+    by false = omega arith
+
+happens-owes : (setup : Setup) (e : Event) (x : Scene) → owes (happens setup e x) ≡ owes x
+unfolding happens frsArrive
+happens-owes setup e x = refl
+
+framesOf-length : (setup : Setup) (es : List Event) (x : Scene) → length (framesOf setup es x) ≤ length es + owes x
+unfolding framesOf
+framesOf-length setup [] x = omega arith
+framesOf-length setup (e ∷ es) x =
+    let y = happens setup e x in
+    let z = momentEnds setup e es y in
+    omega (
+      arith,
+      length-append (frsOf setup e ++ frsEnding setup e es y) (framesOf setup es z),
+      length-append (frsOf setup e) (frsEnding setup e es y),
+      frsOf-length setup e,
+      ends-length setup e es y,
+      happens-owes setup e x,
+      framesOf-length setup es z,
+    )
+
+owes-most : (x : Scene) → owes x ≤ 1
+owes-most x = either-way (λ (n : ℕ). n ≤ 1) (x .root .dev .owed) 1 0 (λ e. omega arith) (λ e. omega arith)
+
+-- One settle sends at most one message for each event, and the port's own;
+pub frsSent-by : (setup : Setup) (x : Scene) → length (frsSent setup x) ≤ length (due (x .root .dev .clock) (x .statuses)) + 1
 unfolding frsSent
-frsSent-most setup x =
+frsSent-by setup x =
     let es = due (x .root .dev .clock) (x .statuses) in
     omega (
       arith,
-      length-append (framesOf setup es) (cond (drsDue (happenAll setup es x)) (frsOfDrs (setup .«port_id») (x .root .dev)) []),
-      framesOf-length setup es,
-      due-length 0 (x .root .dev .clock) (x .statuses),
-      own-length setup (drsDue (happenAll setup es x)) (x .root .dev),
+      length-append (frsTold setup x) (framesOf setup es (tells setup x)),
+      told-length setup x,
+      framesOf-length setup es (tells setup x),
+      owes-most x,
     )
+
+-- so at most one for each slot, and the port's own.
+pub frsSent-most : (setup : Setup) (x : Scene) → length (frsSent setup x) ≤ length (x .statuses) + 1
+frsSent-most setup x = omega (arith, frsSent-by setup x, due-length 0 (x .root .dev .clock) (x .statuses))
 
 -- what a record has brought that starts at x and ends at y, if just these messages arrived and the DRS interrupt was raised or not
 pub record Brings (messages : List Frs) (raised : Bool) (x y : Root) : Type 0 where
@@ -298,50 +460,64 @@ settle-counts setup x h t = omega (arith, settle-brings setup x h t .all, frsSen
 
 -- ---- one slot alone
 
-all-ready-set : (l : List Status) (k : ℕ) (s : Status) → k < length l → getD l k ready ≡ ready → allReady (set l k s) ≡ (isReady s && allReady l)
-unfolding allReady
-all-ready-set [] k s h e = absurd (omega arith)
-all-ready-set (r ∷ l) zero s h e = ap (λ (v : Status). isReady s && (isReady v && allReady l)) (sym e)
-all-ready-set (r ∷ l) (suc k) s h e =
-    ap (λ (b : Bool). isReady r && b) (all-ready-set l k s (omega arith) e)
-    ∙ truth 3 (λ a b c. a && (b && c)) (λ a b c. b && (a && c)) tt (isReady r) (isReady s) (allReady l)
+owed-after : (setup : Setup) (m : List Frs) (r : Root) (l : List Status) → (r .dev .owed && allReady setup l) ≡ false → (frsArrive m r .dev .owed && allReady setup l) ≡ false
+unfolding frsArrive
+owed-after setup m r l d = d
 
-module _ (setup : Setup) (l : List Status) (k : ℕ) (h : k < length l) (e : getD l k ready ≡ ready) where
+-- with one slot other, all slots that count are Ready only if they are with that slot Ready
+set-ready : (setup : Setup) (j : ℕ) (l : List Status) (k : ℕ) (s : Status) → isReady (getD l k ready) ≡ true → allReadyFrom setup j (set l k s) ≡ true → allReadyFrom setup j l ≡ true
+unfolding allReadyFrom
+set-ready setup j [] k s r e = refl
+set-ready setup j (v ∷ l) zero s r e =
+    let n = not (countsForDrs setup j) in
+    and-each (n || isReady s) (allReadyFrom setup (suc j) l) (n || isReady v) (allReadyFrom setup (suc j) l) (or-right n (isReady s) (isReady v) (λ q. r)) (λ q. q) e
+set-ready setup j (v ∷ l) (suc k) s r e =
+    let b = not (countsForDrs setup j) || isReady v in
+    and-each b (allReadyFrom setup (suc j) (set l k s)) b (allReadyFrom setup (suc j) l) (λ q. q) (set-ready setup (suc j) l k s r) e
+
+module _ (setup : Setup) (l : List Status) (k : ℕ) (h : k < length l) (ready-k : isReady (getD l k ready) ≡ true) where
   -- slot k with the root port among the others
   abbrev putBack : SlotScene → Scene
   putBack y = record { statuses = set l k (y .status); root = y .root }
 
-  one-quiet : (y : SlotScene) → (y .root .dev .owed && allReady l) ≡ false → tells setup (putBack y) ≡ putBack y
-  unfolding tells
-  one-quiet y d =
-      ap (λ (b : Bool). cond b (told setup (putBack y)) (putBack y))
-      (ap (λ (b : Bool). y .root .dev .owed && b) (all-ready-set l k (y .status) h e)
-      ∙ truth 3 (λ a b c. a && (b && c)) (λ a b c. b && (a && c)) tt (y .root .dev .owed) (isReady (y .status)) (allReady l)
-      ∙ ap (λ (b : Bool). isReady (y .status) && b) d ∙ and-false (isReady (y .status)))
+  one-due : (y : SlotScene) → (y .root .dev .owed && allReady setup l) ≡ false → drsDue setup (putBack y) ≡ false
+  one-due y d = by (drsDue setup (putBack y)) refl
+    where
+      by : (b : Bool) → drsDue setup (putBack y) ≡ b → b ≡ false
+      by false e = refl
+      by true e =
+          let o = y .root .dev .owed in
+          absurd (false≢true (sym d ∙ and-each o (allReady setup (set l k (y .status))) o (allReady setup l) (λ q. q) (set-ready setup 0 l k (y .status) ready-k) e))
 
-  one-happens : (p : Phase) (r : Root) → (r .dev .owed && allReady l) ≡ false
+  one-quiet : (y : SlotScene) → (y .root .dev .owed && allReady setup l) ≡ false → tells setup (putBack y) ≡ putBack y
+  one-quiet y d = tells-quiet setup (putBack y) (one-due y d)
+
+  one-happens : (p : Phase) (r : Root) → (r .dev .owed && allReady setup l) ≡ false
       → (let y : SlotScene = record { status = record { phase = p }; root = r } in
-      tells setup (happenAll setup (dueEvent (r .dev .clock) k p) (putBack y)) ≡ putBack (slotHappens (setup .bus) (entryOf setup k) y (dueEvent (r .dev .clock) k p)))
-  unfolding happenAll happens frsOf frsArrive
-  one-happens Down r d = one-quiet (record { status = record { phase = Down }; root = r }) d
-  one-happens Ready r d = one-quiet (record { status = record { phase = Ready }; root = r }) d
+      happenAll setup (dueEvent (r .dev .clock) k p) (putBack y) ≡ putBack (slotHappens (setup .bus) (entryOf setup k) y (dueEvent (r .dev .clock) k p)))
+  unfolding happenAll momentEnds happens frsOf
+  one-happens Down r d = refl
+  one-happens Ready r d = refl
   one-happens (Pending c t) r d =
       let y : SlotScene = record { status = record { phase = Pending c t }; root = r } in
       let v : Event = record { slot = k; cause = c; time = t } in
-      let after : Root = frsArrive (frsOfSlot (setup .bus) (entryOf setup k) k c) r in
-      either-way (λ (es : List Event). tells setup (happenAll setup es (putBack y)) ≡ putBack (slotHappens (setup .bus) (entryOf setup k) y es)) (leb (t .0) (r .dev .clock .0)) (v ∷ []) []
-      (λ b. ap (λ (m : List Status). tells setup (record { statuses = m; root = after })) (set-set l k (record { phase = Pending c t }) ready) ∙ one-quiet (record { status = ready; root = after }) d)
-      (λ b. one-quiet y d)
+      let frames = frsOfSlot (setup .bus) (entryOf setup k) k c in
+      let after : Root = frsArrive frames r in
+      either-way (λ (es : List Event). happenAll setup es (putBack y) ≡ putBack (slotHappens (setup .bus) (entryOf setup k) y es)) (leb (t .0) (r .dev .clock .0)) (v ∷ []) []
+      (λ b. ap (λ (m : List Status). tells setup (record { statuses = m; root = after })) (set-set l k (record { phase = Pending c t }) ready) ∙ one-quiet (record { status = ready; root = after }) (owed-after setup frames r l d))
+      (λ b. refl)
 
 -- Where nothing is due, no DRS is to be told and slot k is Ready, a new status of slot k concerns that slot alone: settling is that slot's own settling, put back.
 pub settle-one : (setup : Setup) (l : List Status) (k : ℕ) (s : Status) (r : Root)
-    → k < length l → getD l k ready ≡ ready → due (r .dev .clock) l ≡ [] → (r .dev .owed && allReady l) ≡ false
+    → k < length l → isReady (getD l k ready) ≡ true → due (r .dev .clock) l ≡ [] → (r .dev .owed && allReady setup l) ≡ false
     → (let y = slotSettles (setup .bus) (entryOf setup k) k (record { status = s; root = r }) in
     settles setup (record { statuses = set l k s; root = r }) ≡ record { statuses = set l k (y .status); root = y .root })
 unfolding settles slotSettles
 settle-one setup l k s r h e n d =
-    ap (λ (es : List Event). tells setup (happenAll setup es (record { statuses = set l k s; root = r })))
+    let y : SlotScene = record { status = s; root = r } in
+    ap₂ (λ (es : List Event) (x : Scene). happenAll setup es x)
     (due-set 0 (r .dev .clock) l k s h n ∙ ap (λ (j : ℕ). dueEvent (r .dev .clock) j (s .phase)) (zero-add k))
+    (one-quiet setup l k h e y d)
     ∙ one-happens setup l k h e (s .phase) r d
 
 -- ---- slots past the card's, which are Ready for ever
@@ -355,10 +531,18 @@ pub padded-due : (clock : Nanos) (l : List Status) (n : ℕ) → due clock (l ++
 padded-due clock l n = due-padded 0 clock l n
 
 -- and hold no DRS back;
-pub padded-ready : (l : List Status) (n : ℕ) → allReady (l ++ replicate n ready) ≡ allReady l
-unfolding allReady
-padded-ready [] n = all-ready-replicate n
-padded-ready (s ∷ l) n = ap (λ (b : Bool). isReady s && b) (padded-ready l n)
+filled-ready : (setup : Setup) (k n : ℕ) → allReadyFrom setup k (replicate n ready) ≡ true
+unfolding allReadyFrom
+filled-ready setup k zero = refl
+filled-ready setup k (suc n) = and-each (not (countsForDrs setup k) || true) true (not (countsForDrs setup k) || true) _ (λ q. q) (λ q. filled-ready setup (suc k) n) (ap (λ (b : Bool). b && true) (or-true (not (countsForDrs setup k))))
+
+padded-from : (setup : Setup) (k : ℕ) (l : List Status) (n : ℕ) → allReadyFrom setup k (l ++ replicate n ready) ≡ allReadyFrom setup k l
+unfolding allReadyFrom
+padded-from setup k [] n = filled-ready setup k n
+padded-from setup k (s ∷ l) n = ap (λ (b : Bool). (not (countsForDrs setup k) || isReady s) && b) (padded-from setup (suc k) l n)
+
+pub padded-ready : (setup : Setup) (l : List Status) (n : ℕ) → allReady setup (l ++ replicate n ready) ≡ allReady setup l
+padded-ready setup l n = padded-from setup 0 l n
 
 set-replicate : (n k : ℕ) → set (replicate n ready) k ready ≡ replicate n ready
 set-replicate zero k = refl
@@ -370,26 +554,33 @@ set-padded [] n k = set-replicate n k
 set-padded (s ∷ l) n zero = refl
 set-padded (s ∷ l) n (suc k) = ap {B = List Status} (λ r. s ∷ r) (set-padded l n k)
 
-padded-happen : (setup : Setup) (n : ℕ) (es : List Event) (x : Scene) → happenAll setup es (padded n x) ≡ padded n (happenAll setup es x)
-unfolding happenAll happens
-padded-happen setup n [] x = refl
-padded-happen setup n (e ∷ es) x =
-    ap (λ (l : List Status). happenAll setup es (record { statuses = l; root = frsArrive (frsOf setup e) (x .root) })) (set-padded (x .statuses) n (e .slot))
-    ∙ padded-happen setup n es (happens setup e x)
-
 padded-tells : (setup : Setup) (n : ℕ) (x : Scene) → tells setup (padded n x) ≡ padded n (tells setup x)
 unfolding tells
 padded-tells setup n x =
-    ap (λ (b : Bool). cond (x .root .dev .owed && b) (told setup (padded n x)) (padded n x)) (padded-ready (x .statuses) n)
-    ∙ through (padded n) (drsDue x) (told setup x) x refl refl
+    ap (λ (b : Bool). cond (x .root .dev .owed && b) (told setup (padded n x)) (padded n x)) (padded-ready setup (x .statuses) n)
+    ∙ through (padded n) (drsDue setup x) (told setup x) x refl refl
+
+padded-ends : (setup : Setup) (n : ℕ) (e : Event) (es : List Event) (x : Scene) → momentEnds setup e es (padded n x) ≡ padded n (momentEnds setup e es x)
+unfolding momentEnds
+padded-ends setup n e es x = through (padded n) (lastOfMoment e es) (tells setup x) x (padded-tells setup n x) refl
+
+padded-happens : (setup : Setup) (n : ℕ) (e : Event) (x : Scene) → happens setup e (padded n x) ≡ padded n (happens setup e x)
+unfolding happens
+padded-happens setup n e x = ap (λ (l : List Status). record { statuses = l; root = frsArrive (frsOf setup e) (x .root) }) (set-padded (x .statuses) n (e .slot))
+
+padded-happen : (setup : Setup) (n : ℕ) (es : List Event) (x : Scene) → happenAll setup es (padded n x) ≡ padded n (happenAll setup es x)
+unfolding happenAll
+padded-happen setup n [] x = refl
+padded-happen setup n (e ∷ es) x =
+    ap (happenAll setup es) (ap (momentEnds setup e es) (padded-happens setup n e x) ∙ padded-ends setup n e es (happens setup e x))
+    ∙ padded-happen setup n es (momentEnds setup e es (happens setup e x))
 
 -- so settling never sees them.
 pub settle-padded : (setup : Setup) (n : ℕ) (x : Scene) → settles setup (padded n x) ≡ padded n (settles setup x)
 unfolding settles
 settle-padded setup n x =
-    ap (λ (es : List Event). tells setup (happenAll setup es (padded n x))) (padded-due (x .root .dev .clock) (x .statuses) n)
-    ∙ ap (tells setup) (padded-happen setup n (due (x .root .dev .clock) (x .statuses)) x)
-    ∙ padded-tells setup n (happened setup x)
+    ap₂ (λ (es : List Event) (y : Scene). happenAll setup es y) (padded-due (x .root .dev .clock) (x .statuses) n) (padded-tells setup n x)
+    ∙ padded-happen setup n (due (x .root .dev .clock) (x .statuses)) (tells setup x)
 
 each-past : (j slots : ℕ) (f : ℕ → Status) (r : List Status) → slots ≤ j → eachFrom j slots f r ≡ r
 unfolding eachFrom

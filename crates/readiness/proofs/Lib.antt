@@ -3,6 +3,7 @@ pub mod Examples
 pub mod Order
 pub mod Scenes
 pub mod Laws
+pub mod AtTheEnd
 pub mod TwoAdvances
 pub mod Bounds
 pub mod PhaseNumbers

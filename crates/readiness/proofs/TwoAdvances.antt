@@ -2,12 +2,13 @@
 -- Assumes nothing.
 use Prim.Native.Nat.{ℕ, zero, suc, _+_, _≤_, min}
 use native.Mathlib.Omega.{arith}
-use mathlib.Core.Bool.{Bool, true, false, _&&_, _||_, cond, false≢true}
+use mathlib.Core.Bool.{Bool, true, false, _||_, cond}
 use mathlib.Core.List.{List, []}
-use mathlib.Core.Path.{_≡_, refl, sym, ap, _∙_, subst}
+use mathlib.Core.Path.{_≡_, refl, sym, ap, ap₂, _∙_, subst}
 use lib.Dec.{leb}
 use lib.ListN.{length}
 use borrow.Author.Tests.{leb-true, leb-false}
+use Rattle.bits.proofs.Tests.{both-right}
 use Rattle.times.specs.declared.Nanos.{Nanos}
 use Rattle.times.specs.Moments.{greatestNanos, sumOf}
 use Rattle.frs_queue.specs.declared.Tally.{Tally}
@@ -15,12 +16,11 @@ use Rattle.frs_queue.specs.Queue.{noTally}
 use Rattle.frs_queue.proofs.Tallies.{Shown, plus-none-right, counted-plain}
 use Rattle.readiness.specs.declared.Status.{Status}
 use Rattle.readiness.specs.declared.Setup.{Setup}
-use Rattle.readiness.specs.Status.{allReady}
 use Rattle.readiness.specs.Events.{Event, due}
 use Rattle.readiness.specs.Settle.{Scene, happenAll, drsDue, tells, settles, atClock, advances}
-use Rattle.readiness.proofs.Order.{readyBy, due-ready, due-split, due-all-ready}
-use Rattle.readiness.proofs.Scenes.{Kept, happenAll-is, happenAll-append, told, tells-statuses, tells-kept, happenAll-kept, settled-kept, happenAll-at, tells-at, since, fresh, settles-since, settles-shown}
-use Rattle.readiness.proofs.Laws.{tells-drs, settle-rest, settled-due, settled-drs, settle-counts, padded, settle-padded}
+use Rattle.readiness.proofs.Order.{readyBy, setReady, due-before, due-after, due-ready, due-split}
+use Rattle.readiness.proofs.Scenes.{Kept, happenAll-statuses, happenAll-append, tells-statuses, tells-kept, happenAll-kept, settled-kept, happenAll-at, tells-at, since, fresh, settles-since, settles-shown}
+use Rattle.readiness.proofs.Laws.{tells-quiet, tells-drs, happenAll-drs, settle-rest, settled-due, settled-drs, settle-counts, padded, settle-padded}
 
 -- ---- moments
 
@@ -55,52 +55,34 @@ sum-none t h =
 
 -- ---- settling at a moment, and then at a later one
 
-tells-quiet : (setup : Setup) (x : Scene) → drsDue x ≡ false → tells setup x ≡ x
-unfolding tells
-tells-quiet setup x e = ap (λ (b : Bool). cond b (told setup x) x) e
-
--- a DRS that is told before events which then can't happen is told after them
-tells-before : (setup : Setup) (es : List Event) (x : Scene) → (drsDue x ≡ true → es ≡ []) → tells setup (happenAll setup es (tells setup x)) ≡ tells setup (happenAll setup es x)
-unfolding happenAll
-tells-before setup es x f = by (drsDue x) refl
-  where
-    by : (b : Bool) → drsDue x ≡ b → tells setup (happenAll setup es (tells setup x)) ≡ tells setup (happenAll setup es x)
-    by true e =
-        let none = f e in
-        ap (λ (v : List Event). tells setup (happenAll setup v (tells setup x))) none
-        ∙ tells-quiet setup (tells setup x) (tells-drs setup x)
-        ∙ sym (ap (λ (v : List Event). tells setup (happenAll setup v x)) none)
-    by false e = ap (λ (y : Scene). tells setup (happenAll setup es y)) (tells-quiet setup x e)
-
-owed-ready : (a b : Bool) → (a && b) ≡ true → b ≡ true
-owed-ready true b e = e
-owed-ready false b e = absurd (false≢true e)
-
 -- Settling at a moment and then at a later one is settling at the later one.
 pub settle-later : (setup : Setup) (t later : Nanos) (x : Scene) → t .0 ≤ later .0 → settles setup (atClock later (settles setup (atClock t x))) ≡ settles setup (atClock later x)
 unfolding settles
 settle-later setup t later x h =
-    ap (settles setup) (tells-at setup later (happenAll setup first (atClock t x)) ∙ ap (tells setup) (happenAll-at setup later first (atClock t x)))
-    ∙ ap (λ (c : Nanos). tells setup (happenAll setup (due c (tells setup z .statuses)) (tells setup z))) clock
-    ∙ ap (λ (l : List Status). tells setup (happenAll setup (due later l) (tells setup z))) (tells-statuses setup z ∙ statuses)
-    ∙ tells-before setup then z (λ e. due-all-ready 0 later (readyBy t (x .statuses)) (ap allReady (sym statuses) ∙ owed-ready (z .root .dev .owed) (allReady (z .statuses)) e))
-    ∙ ap (tells setup) (sym (happenAll-append setup first then (atClock later x)) ∙ ap (λ (es : List Event). happenAll setup es (atClock later x)) (sym (due-split 0 t later h (x .statuses))))
+    ap (settles setup) (happenAll-at setup later first (tells setup (atClock t x)) ∙ ap (happenAll setup first) (tells-at setup later (atClock t x)))
+    ∙ ap (λ (c : Nanos). happenAll setup (due c (z .statuses)) (tells setup z)) clock
+    ∙ ap₂ (λ (l : List Status) (y : Scene). happenAll setup (due later l) y) statuses (tells-quiet setup z quiet)
+    ∙ sym (happenAll-append setup t first (due later (readyBy t (x .statuses))) (tells setup (atClock later x)) (due-before 0 t (x .statuses)) (due-after 0 t later (x .statuses)))
+    ∙ ap (λ (es : List Event). happenAll setup es (tells setup (atClock later x))) (sym (due-split 0 t later h (x .statuses)))
   where
-    -- what is due by the first moment, and what is due then by the later one
+    -- what is due by the first moment
     first : List Event
     first = due t (x .statuses)
 
-    then : List Event
-    then = due later (readyBy t (x .statuses))
-
     z : Scene
-    z = happenAll setup first (atClock later x)
+    z = happenAll setup first (tells setup (atClock later x))
 
-    clock : tells setup z .root .dev .clock ≡ later
-    clock = tells-kept setup z .clock ∙ happenAll-kept setup first (atClock later x) .clock
+    clock : z .root .dev .clock ≡ later
+    clock = happenAll-kept setup first (tells setup (atClock later x)) .clock ∙ tells-kept setup (atClock later x) .clock
 
     statuses : z .statuses ≡ readyBy t (x .statuses)
-    statuses = ap (λ (y : Scene). y .statuses) (happenAll-is setup first (atClock later x)) ∙ due-ready t (x .statuses)
+    statuses =
+        happenAll-statuses setup first (tells setup (atClock later x))
+        ∙ ap (setReady first) (tells-statuses setup (atClock later x))
+        ∙ due-ready t (x .statuses)
+
+    quiet : drsDue setup z ≡ false
+    quiet = happenAll-drs setup first (tells setup (atClock later x)) (tells-drs setup (atClock later x))
 
 -- ---- advances
 
@@ -193,12 +175,12 @@ nanoByNano setup (suc d) x =
     since (first .root .tally) (nanoByNano setup d (fresh first))
 
 -- a scene at rest, at a moment that a clock can show
-pub record Rests (x : Scene) : Type 0 where
+pub record Rests (setup : Setup) (x : Scene) : Type 0 where
   pub due : due (x .root .dev .clock) (x .statuses) ≡ []
-  pub drs : drsDue x ≡ false
+  pub drs : drsDue setup x ≡ false
   pub clock : x .root .dev .clock .0 ≤ greatestNanos
 
-advances-rests : (setup : Setup) (d : Nanos) (x : Scene) → Rests (fresh (advances setup d x))
+advances-rests : (setup : Setup) (d : Nanos) (x : Scene) → Rests setup (fresh (advances setup d x))
 unfolding advances
 advances-rests setup d x =
     let y = atClock (sumOf (x .root .dev .clock) d) x in
@@ -208,7 +190,7 @@ advances-rests setup d x =
       clock = omega (arith, ap (λ (t : Nanos). t .0) (settled-kept setup y .clock), sum-most (x .root .dev .clock) d);
     }
 
-advances-none : (setup : Setup) (x : Scene) → Rests x → advances setup (record { 0 = 0 }) x ≡ x
+advances-none : (setup : Setup) (x : Scene) → Rests setup x → advances setup (record { 0 = 0 }) x ≡ x
 unfolding advances
 advances-none setup x r = ap (λ (t : Nanos). settles setup (atClock t x)) (sum-none (x .root .dev .clock) (r .clock)) ∙ settle-rest setup x (r .due) (r .drs)
 
@@ -223,7 +205,7 @@ one-more setup d x h rest =
     ∙ ap (since (advances setup nano x .root .tally)) rest
 
 -- An advance by d is d advances by 1: what becomes Ready on the way happens at the exact moment. An advance by 0 is none where the scene is at rest;
-pub by-one-rests : (setup : Setup) (d : ℕ) (x : Scene) → Rests x → Shown (x .root .tally) → advances setup (record { 0 = d }) x ≡ nanoByNano setup d x
+pub by-one-rests : (setup : Setup) (d : ℕ) (x : Scene) → Rests setup x → Shown (x .root .tally) → advances setup (record { 0 = d }) x ≡ nanoByNano setup d x
 unfolding nanoByNano
 by-one-rests setup zero x r h = advances-none setup x r
 by-one-rests setup (suc d) x r h = one-more setup d x h (by-one-rests setup d (fresh (advances setup nano x)) (advances-rests setup nano x) (none-shown noTally refl))

@@ -1,3 +1,5 @@
+pub mod Fields
+pub mod Blank
 pub mod Status
 pub mod Root
 pub mod Events

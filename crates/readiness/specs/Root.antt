@@ -9,6 +9,7 @@ use Rattle.frs_queue.specs.declared.Tally.{Tally}
 use Rattle.frs_queue.specs.Queue.{Ring, arriveAll}
 use Rattle.readiness.specs.declared.Dev.{Dev}
 use Rattle.readiness.specs.declared.RootPort.{RootPort}
+use Rattle.readiness.specs.Fields.{withOwed, withDrsReceived, withQueue}
 
 -- the device, the queue cells, and what the record has brought so far
 pub record Root : Type 0 where
@@ -25,13 +26,7 @@ ringOf x = record { cells = x .cells; queue = x .dev .queue; tally = x .tally }
 
 -- the port with another queue
 abbrev pub withRing : Ring → Root → Root
-withRing r x =
-    let d = x .dev in
-    record {
-      dev = record { clock = d .clock; link = d .link; owed = d .owed; «drs_received» = d .«drs_received»; control = d .control; queue = r .queue };
-      cells = r .cells;
-      tally = r .tally;
-    }
+withRing r x = record { dev = withQueue (x .dev) (r .queue); cells = r .cells; tally = r .tally }
 
 -- FRS messages arrive, one after the other
 unfoldable pub frsArrive : List Frs → Root → Root
@@ -51,7 +46,7 @@ drsSet x =
     let d = x .dev in
     let t = x .tally in
     record {
-      dev = record { clock = d .clock; link = d .link; owed = d .owed; «drs_received» = true; control = d .control; queue = d .queue };
+      dev = withDrsReceived d true;
       cells = x .cells;
       tally = record { received = t .received; overflow = t .overflow; drs = t .drs || drsInterrupt d; queued = t .queued; dropped = t .dropped };
     }
@@ -62,10 +57,4 @@ drsArrives portId x = frsArrive (frsOfDrs portId (x .dev)) (drsSet x)
 
 -- nothing is owed
 abbrev pub nothingOwed : Root → Root
-nothingOwed x =
-    let d = x .dev in
-    record {
-      dev = record { clock = d .clock; link = d .link; owed = false; «drs_received» = d .«drs_received»; control = d .control; queue = d .queue };
-      cells = x .cells;
-      tally = x .tally;
-    }
+nothingOwed x = record { dev = withOwed (x .dev) false; cells = x .cells; tally = x .tally }

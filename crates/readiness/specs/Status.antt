@@ -1,9 +1,9 @@
 -- A slot's status and what starts it anew (01, "Readiness").
 -- Assumes nothing.
 use Prim.Native.Nat.{ℕ, suc}
-use mathlib.Core.Bool.{Bool, true, false, _&&_, cond}
+use mathlib.Core.Bool.{Bool, true, false, not, _&&_, _||_, cond}
 use mathlib.Core.List.{List, [], _∷_}
-use lib.Dec.{leb, ltb}
+use lib.Dec.{ltb}
 use lib.ListN.{getD}
 use Rattle.times.specs.declared.Nanos.{Nanos}
 use Rattle.times.specs.Codes.{nanosOf}
@@ -19,6 +19,8 @@ use Rattle.readiness.specs.declared.Slot.{Slot}
 use Rattle.readiness.specs.declared.Setup.{Setup}
 use Rattle.readiness.specs.declared.Control.{Control}
 use Rattle.readiness.specs.declared.Dev.{Dev}
+use Rattle.readiness.specs.Fields.{withLink, withOwed, withDrsReceived, withControl, withQueue}
+use Rattle.readiness.specs.Blank.{blankControl, blankSlot}
 
 -- a slot is Down, Pending or Ready
 abbrev pub down : Status
@@ -38,13 +40,21 @@ readyPhase Ready = true
 abbrev pub isReady : Status → Bool
 isReady s = readyPhase (s .phase)
 
-unfoldable pub allReady : List Status → Bool
-allReady [] = true
-allReady (s ∷ l) = isReady s && allReady l
+-- every slot counts for DRS
+abbrev pub countsForDrs : Setup → (slot : ℕ) → Bool
+countsForDrs setup slot = true
+
+-- all slots that count are Ready
+unfoldable pub allReadyFrom : Setup → (slot : ℕ) → List Status → Bool
+allReadyFrom setup slot [] = true
+allReadyFrom setup slot (s ∷ l) = (not (countsForDrs setup slot) || isReady s) && allReadyFrom setup (suc slot) l
+
+abbrev pub allReady : Setup → List Status → Bool
+allReady setup l = allReadyFrom setup 0 l
 
 -- what a slot that isn't there would be
 abbrev pub noSlot : Slot
-noSlot = record { reset = record { 0 = 0 }; «dl_up» = record { 0 = 0 }; flr = record { 0 = 0 }; d3hot = record { 0 = 0 }; «sends_frs» = false }
+noSlot = blankSlot
 
 -- a slot's entry in the set-up
 abbrev pub entryOf : Setup → ℕ → Slot
@@ -67,41 +77,34 @@ startedByLinkUp setup dev l = eachSlot setup (λ slot. pending LinkUp (readyAfte
 
 -- the link is up and a DRS is owed
 abbrev pub afterLinkUp : Dev → Dev
-afterLinkUp d = record { clock = d .clock; link = true; owed = true; «drs_received» = d .«drs_received»; control = d .control; queue = d .queue }
+afterLinkUp d = withOwed (withLink d true) true
 
 -- link down or cold reset: every slot Down
-abbrev pub statusAfterReset : Setup → ℕ → Status
-statusAfterReset setup slot = down
+abbrev pub statusAfterReset : Setup → Dev → (slot : ℕ) → Status
+statusAfterReset setup dev slot = down
 
-abbrev pub stoppedByReset : Setup → List Status → List Status
-stoppedByReset setup l = eachSlot setup (statusAfterReset setup) l
+abbrev pub stoppedByReset : Setup → Dev → List Status → List Status
+stoppedByReset setup dev l = eachSlot setup (statusAfterReset setup dev) l
 
 -- link down or cold reset: link down, nothing owed, queue emptied
 unfoldable pub afterReset : Dev → Dev
-afterReset d = record { clock = d .clock; link = false; owed = false; «drs_received» = d .«drs_received»; control = d .control; queue = emptied (d .queue) }
+afterReset d = withQueue (withOwed (withLink d false) false) (emptied (d .queue))
 
 -- link down clears DRS Received of the port's bits
 unfoldable pub afterLinkDown : Dev → Dev
-afterLinkDown d =
-    let r = afterReset d in
-    record { clock = r .clock; link = r .link; owed = r .owed; «drs_received» = false; control = r .control; queue = r .queue }
+afterLinkDown d = withDrsReceived (afterReset d) false
 
 -- cold reset clears all of them
 abbrev pub noControl : Control
-noControl = record { visibility = false; «frs_interrupt» = false; signalling = 0 }
+noControl = blankControl
+
+abbrev pub noBits : Queue → Queue
+noBits q = record { start = q .start; depth = q .depth; received = false; overflow = false }
 
 unfoldable pub afterColdReset : Dev → Dev
 afterColdReset d =
     let r = afterReset d in
-    let q = r .queue in
-    record {
-      clock = r .clock;
-      link = r .link;
-      owed = r .owed;
-      «drs_received» = false;
-      control = noControl;
-      queue = record { start = q .start; depth = q .depth; received = false; overflow = false };
-    }
+    withQueue (withControl (withDrsReceived r false) noControl) (noBits (r .queue))
 
 -- the longest that an FLR is in progress
 abbrev pub flrMost : Nanos

@@ -1,6 +1,10 @@
-// The slots' readiness: its types, and in specs/ what starts a slot anew, which slots become Ready in which order, and what arrives at the
-// root port then.
+// The slots' readiness: its types and their blank values, and in specs/ what starts a slot anew, which slots become Ready in which order, and
+// what arrives at the root port then.
 
+ghost use mathlib.Core.Path.{_≡_};
+ghost use lib.ListN.{replicate};
+ghost use Rattle.readiness.specs.Blank.{blankControl, blankQueue, blankDev, blankSlot, blankSetup};
+ghost use Rattle.readiness.specs.Status.{down};
 use frs_queue::Queue;
 use frs_queue::Tally;
 use times::Code;
@@ -67,4 +71,71 @@ pub struct RootPort {
 pub struct SlotSettled {
     pub status: Status,
     pub port: RootPort,
+}
+
+// ---- Blank values: every number 0, every bit off, every slot Down
+
+pub fn blank_control() -> Control
+    ensures { λ r. ⌜ r ≡ blankControl ⌝ }
+{
+    Control {
+        visibility: false,
+        frs_interrupt: false,
+        signalling: 0,
+    }
+}
+
+pub fn blank_queue() -> Queue
+    ensures { λ r. ⌜ r ≡ blankQueue ⌝ }
+{
+    Queue {
+        start: 0,
+        depth: 0,
+        received: false,
+        overflow: false,
+    }
+}
+
+// Clock 0, link down, nothing owed, all port bits 0, the queue empty at cell 0.
+pub fn blank_dev() -> Dev
+    ensures { λ r. ⌜ r ≡ blankDev ⌝ }
+{
+    Dev {
+        clock: times::nanos_of(0),
+        link: false,
+        owed: false,
+        drs_received: false,
+        control: blank_control(),
+        queue: blank_queue(),
+    }
+}
+
+pub fn blank_slot() -> Slot
+    ensures { λ r. ⌜ r ≡ blankSlot ⌝ }
+{
+    Slot {
+        reset: times::code_of(0),
+        dl_up: times::code_of(0),
+        flr: times::code_of(0),
+        d3hot: times::code_of(0),
+        sends_frs: false,
+    }
+}
+
+pub fn blank_setup() -> Setup
+    ensures { λ r. ⌜ r ≡ blankSetup ⌝ }
+{
+    let entries = [blank_slot(); 32];
+    Setup {
+        slots: 0,
+        entries: entries,
+        bus: 0,
+        port_id: 0,
+    }
+}
+
+pub fn all_down() -> [Status; 32]
+    ensures { λ r. ⌜ r ≡ replicate 32 down ⌝ }
+{
+    [Status { phase: Phase::Down }; 32]
 }

@@ -9,13 +9,14 @@ use mathlib.Core.Path.{_≡_, refl, sym, ap, _∙_}
 use lib.Dec.{eqb}
 use lib.ListN.{length}
 use borrow.Author.Tests.{eqb-true, eq-eqb, lt-ltb, le-ltb}
+use Rattle.bits.proofs.Choices.{either-way}
 use Rattle.bits.specs.Bits.{bit}
 use Rattle.bits.proofs.Tests.{truth, both, both-left, both-right, untrue}
 use Rattle.times.specs.declared.Nanos.{Nanos}
 use Rattle.times.specs.Codes.{nanosOf}
 use Rattle.registers.specs.declared.Kind.{Kind}
-use Rattle.registers.specs.Rows.{startsFlr}
-use Rattle.registers.specs.Words.{writeWord}
+use Rattle.registers.specs.Rows.{flrCapabilityWord, startsFlr}
+use Rattle.registers.specs.Words.{writeWord, startsD3hot}
 use Rattle.config_space.specs.Functions.{linkResetAll}
 use Rattle.registers.proofs.Laws.{starts-flr-only}
 use Rattle.config_space.proofs.Slots.{cold-reset-defaults}
@@ -26,16 +27,15 @@ use Rattle.readiness.specs.declared.Slot.{Slot}
 use Rattle.readiness.specs.declared.Setup.{Setup}
 use Rattle.readiness.specs.declared.Dev.{Dev}
 use Rattle.readiness.specs.Status.{down, pending, entryOf, statusAfterReset, stoppedByReset, afterReset, afterLinkDown, afterColdReset}
-use Rattle.readiness.proofs.Order.{either-way}
 use Rattle.readiness.proofs.Clauses.{at, each-at, link-up-starts, d3hot-starts, flr-starts}
 use Rattle.records.specs.declared.Request.{Request}
 use Rattle.records.specs.declared.Record.the-variants as kind
 use Rattle.records.specs.declared.Crs.{Crs}
 use Rattle.records.specs.declared.Route.the-variants as route
-use Rattle.records.specs.State.{State, Seat, statusAt, cardKind}
+use Rattle.records.specs.State.{State, Seat, statusAt, slotKind}
 use Rattle.records.specs.Answer.{Effect, refused, does, one}
 use Rattle.records.specs.Route.{pendingRoute}
-use Rattle.records.specs.Requests.{wordAt, written, startsD3hot, afterFlr, afterD3hot, writeSeat}
+use Rattle.records.specs.Requests.{wordAt, written, afterFlr, afterD3hot, writeSeat}
 use Rattle.records.specs.PortRecords.{clearedDev, statusBits}
 use Rattle.records.specs.CardRecords.{linkUpEffect, linkDownEffect, coldResetEffect}
 use Rattle.records.specs.Run.{effect}
@@ -47,9 +47,9 @@ abbrev pub From3To0 : (word old new : ℕ) → Type 0
 From3To0 word old new = (word ≡ 0x44 / 4) × (old % 4 ≡ 3) × (new % 4 ≡ 0)
 
 -- The way from D3hot starts exactly with such a write.
-pub starts-d3hot-exactly : (word old new : ℕ) → (startsD3hot word old new ≡ true) ↔ From3To0 word old new
+pub starts-d3hot-exactly : (kind : Kind) (word old new : ℕ) → (startsD3hot kind word old new ≡ true) ↔ From3To0 word old new
 unfolding startsD3hot
-starts-d3hot-exactly word old new = (holds, λ h. both _ _ (both _ _ (eq-eqb word 0x11 (h .0)) (eq-eqb (old % 4) 3 (h .1))) (eq-eqb (new % 4) 0 (h .2)))
+starts-d3hot-exactly kind word old new = (holds, λ h. both _ _ (both _ _ (eq-eqb word 0x11 (h .0)) (eq-eqb (old % 4) 3 (h .1))) (eq-eqb (new % 4) 0 (h .2)))
   where
     holds : (eqb word 0x11 && eqb (old % 4) 3 && eqb (new % 4) 0) ≡ true → From3To0 word old new
     holds e =
@@ -69,7 +69,7 @@ module _ (kind : Kind) (entry : Slot) (defaults : List ℕ) (q : Request) (value
 
   -- the write starts an FLR
   abbrev flr : Bool
-  flr = startsFlr kind (q .word) value (q .enables) (wordAt defaults (q .slot) 0x1D)
+  flr = startsFlr kind (q .word) value (q .enables) (wordAt defaults (q .slot) (flrCapabilityWord kind))
 
   -- the slot's status after the write
   abbrev after : Status
@@ -77,7 +77,7 @@ module _ (kind : Kind) (entry : Slot) (defaults : List ℕ) (q : Request) (value
 
   -- no FLR starts at 44h
   d3hot-no-flr : From3To0 (q .word) old new → flr ≡ false
-  d3hot-no-flr h = untrue flr (λ e. let w = starts-flr-only kind (q .word) value (q .enables) (wordAt defaults (q .slot) 0x1D) e .0 in let v = h .0 in omega arith)
+  d3hot-no-flr h = untrue flr (λ e. let w = starts-flr-only kind (q .word) value (q .enables) (wordAt defaults (q .slot) (flrCapabilityWord kind)) e .0 in let v = h .0 in omega arith)
 
   -- A write to a Ready slot: an FLR makes the slot Pending until c + T with T its FLR Time, and is in progress until c + min(T, 100,000,000);
   pub write-starts-flr : z .dev .clock .0 ≤ 1000000000000000000 → flr ≡ true
@@ -85,7 +85,7 @@ module _ (kind : Kind) (entry : Slot) (defaults : List ℕ) (q : Request) (value
   unfolding writeSeat afterFlr
   write-starts-flr c e =
       ap (λ (b : Bool).
-      cond b (afterFlr kind entry defaults (q .slot) w) (cond (startsD3hot (q .word) old new) (afterD3hot kind entry defaults (q .slot) new w) w) .status) e
+      cond b (afterFlr kind entry defaults (q .slot) w) (cond (startsD3hot kind (q .word) old new) (afterD3hot kind entry defaults (q .slot) new w) w) .status) e
       ∙ flr-starts (z .dev .clock) entry c
     where
       w : Seat
@@ -95,9 +95,9 @@ module _ (kind : Kind) (entry : Slot) (defaults : List ℕ) (q : Request) (value
   pub write-starts-d3hot : z .dev .clock .0 ≤ 1000000000000000000 → From3To0 (q .word) old new → after ≡ pending cause.D3hot (at (z .dev .clock .0 + nanosOf (entry .d3hot) .0))
   unfolding writeSeat afterD3hot
   write-starts-d3hot c h =
-      ap (λ (b : Bool). cond b (afterFlr kind entry defaults (q .slot) w) (cond (startsD3hot (q .word) old new) (afterD3hot kind entry defaults (q .slot) new w) w) .status)
+      ap (λ (b : Bool). cond b (afterFlr kind entry defaults (q .slot) w) (cond (startsD3hot kind (q .word) old new) (afterD3hot kind entry defaults (q .slot) new w) w) .status)
       (d3hot-no-flr h)
-      ∙ ap (λ (b : Bool). cond b (afterD3hot kind entry defaults (q .slot) new w) w .status) (starts-d3hot-exactly (q .word) old new .1 h)
+      ∙ ap (λ (b : Bool). cond b (afterD3hot kind entry defaults (q .slot) new w) w .status) (starts-d3hot-exactly kind (q .word) old new .1 h)
       ∙ d3hot-starts (z .dev .clock) entry c
     where
       w : Seat
@@ -107,9 +107,9 @@ module _ (kind : Kind) (entry : Slot) (defaults : List ℕ) (q : Request) (value
   pub write-starts-nothing : flr ≡ false → (From3To0 (q .word) old new → ⊥) → after ≡ z .status
   unfolding writeSeat
   write-starts-nothing e n =
-      ap (λ (b : Bool). cond b (afterFlr kind entry defaults (q .slot) w) (cond (startsD3hot (q .word) old new) (afterD3hot kind entry defaults (q .slot) new w) w) .status) e
+      ap (λ (b : Bool). cond b (afterFlr kind entry defaults (q .slot) w) (cond (startsD3hot kind (q .word) old new) (afterD3hot kind entry defaults (q .slot) new w) w) .status) e
       ∙ ap (λ (b : Bool). cond b (afterD3hot kind entry defaults (q .slot) new w) w .status)
-      (untrue (startsD3hot (q .word) old new) (λ t. n (starts-d3hot-exactly (q .word) old new .0 t)))
+      (untrue (startsD3hot kind (q .word) old new) (λ t. n (starts-d3hot-exactly kind (q .word) old new .0 t)))
     where
       w : Seat
       w = written (q .slot) (q .word) new z
@@ -245,7 +245,7 @@ pub record LinkedDown (setup : Setup) (defaults : List ℕ) (s t : State) : Type
   pub control : t .dev .control ≡ s .dev .control
   pub received : t .dev .queue .received ≡ s .dev .queue .received
   pub overflow : t .dev .queue .overflow ≡ s .dev .queue .overflow
-  pub live : t .live ≡ linkResetAll (cardKind setup) (s .live) defaults
+  pub live : t .live ≡ linkResetAll (slotKind setup) (s .live) defaults
 
 -- cold reset clears all of them, and the live registers equal the defaults
 pub record ColdStarted (setup : Setup) (defaults : List ℕ) (s t : State) : Type 0 where
@@ -258,8 +258,8 @@ pub record ColdStarted (setup : Setup) (defaults : List ℕ) (s t : State) : Typ
   pub live : t .live ≡ defaults
 
 module _ (setup : Setup) (defaults : List ℕ) (s : State) (n : setup .slots ≤ length (s .statuses)) where
-  all-down : (i : ℕ) → i < setup .slots → statusAt (stoppedByReset setup (s .statuses)) i ≡ down
-  all-down i h = each-at (setup .slots) (statusAfterReset setup) 0 (s .statuses) i (omega arith) (omega arith)
+  all-down : (i : ℕ) → i < setup .slots → statusAt (stoppedByReset setup (s .dev) (s .statuses)) i ≡ down
+  all-down i h = each-at (setup .slots) (statusAfterReset setup (s .dev)) 0 (s .statuses) i (omega arith) (omega arith)
 
   -- Link down with the link up.
   pub link-down : s .dev .link ≡ true → Does (LinkedDown setup defaults s) (effect setup defaults s kind.LinkDown)

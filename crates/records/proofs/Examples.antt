@@ -11,7 +11,7 @@ use Rattle.times.specs.declared.Nanos.{Nanos}
 use Rattle.times.specs.Codes.{nanosOf, powerOf}
 use Rattle.times.specs.Moments.{sumOf, leastOf}
 use Rattle.registers.specs.Rows.{endpointTable, find, endpointRow, rowOf, readsZero, startsFlr}
-use Rattle.registers.specs.Words.{laneMask, held, readWord, writeBit, writeWord, resetBit, linkReset, flrReset, hardwareSet}
+use Rattle.registers.specs.Words.{laneMask, held, readWord, writeBit, writeWord, resetBit, linkReset, flrReset, hardwareSet, startsD3hot}
 use Rattle.config_space.specs.Functions.{resetWhere, linkResetSlot, flrResetSlot, linkResetAll, coldReset}
 use Rattle.messages.specs.declared.Message.the-variants.{Drs, Frs}
 use Rattle.frs_queue.specs.Queue.{counted, placeOf, queues, drops, arrives, arriveAll, removed, registerOf, messagesOf}
@@ -20,18 +20,21 @@ use Rattle.readiness.specs.declared.Slot.{Slot}
 use Rattle.readiness.specs.declared.Setup.{Setup}
 use Rattle.readiness.specs.declared.Control as PortControl
 use Rattle.readiness.specs.declared.Dev.{Dev}
-use Rattle.readiness.specs.Status.{allReady, eachFrom, readyAfterLinkUp, afterReset, afterLinkDown, afterColdReset, startedByFlr, startedByD3hot, noSlot, down, pending, ready}
+use Rattle.readiness.specs.Fields.{withClock, withLink, withOwed, withDrsReceived, withControl, withQueue}
+use Rattle.readiness.specs.Blank.{blankDev}
+use Rattle.readiness.specs.Status.{allReadyFrom, eachFrom, readyAfterLinkUp, afterReset, afterLinkDown, afterColdReset, startedByFlr, startedByD3hot, noSlot, down, pending, ready}
 use Rattle.readiness.specs.Root.{frsArrive, frsOfDrs, drsSet, drsArrives}
 use Rattle.readiness.specs.Events.{insert, insertAll, dueFrom, frsOfSlot, frsOf}
-use Rattle.readiness.specs.Settle.{happens, happenAll, tells, settles, framesOf, frsSent}
+use Rattle.readiness.specs.Settle.{happens, tells, momentEnds, happenAll, settles, frsTold, frsEnding, framesOf, frsSent}
 use Rattle.records.specs.declared.Request.{Request}
 use Rattle.records.specs.declared.Record.{Record}
 use Rattle.records.specs.declared.Record.the-variants.{Advance, Read, Write, Message, LinkUp, LinkDown, ColdReset, ReadQueue, RemoveOldest, ClearBits, Control, HardwareSet, ReadBits, NoKind}
-use Rattle.records.specs.State.{State, state, statusAt}
+use Rattle.records.specs.State.{State, state, statusAt, kindOfEntry}
+use Rattle.records.specs.Blank.{blankPort}
 use Rattle.records.specs.Decode.{four, decode}
 use Rattle.records.specs.Answer.{answerBytes, answered, Ran, completionNumber}
 use Rattle.records.specs.Route.{readsVendorId, crsOf, pendingRoute, phaseRoute, routeOf, crsData}
-use Rattle.records.specs.Requests.{startsD3hot, afterFlr, afterD3hot, writeSeat, readEffect, writeEffect, hardwareEffect}
+use Rattle.records.specs.Requests.{afterFlr, afterD3hot, writeSeat, readEffect, writeEffect, hardwareEffect}
 use Rattle.records.specs.PortRecords.{messageDone, messageEffect, clearedDev, controlOf, controlEffect, statusBits}
 use Rattle.records.specs.CardRecords.{advanceEffect, linkUpEffect, linkDownEffect, coldResetEffect}
 use Rattle.records.specs.Arrivals.{arrivals}
@@ -39,7 +42,7 @@ use Rattle.records.specs.Run.{effect, run}
 
 -- a record, computed
 unfoldable pub computed : Setup → (defaults : List ℕ) → State → Record → Ran State
-unfolding bit number word listed replaced nanosOf powerOf sumOf leastOf endpointTable find endpointRow rowOf readsZero startsFlr laneMask held readWord writeBit writeWord resetBit linkReset flrReset hardwareSet resetWhere linkResetSlot flrResetSlot linkResetAll coldReset counted placeOf queues drops arrives arriveAll removed registerOf messagesOf allReady eachFrom readyAfterLinkUp afterReset afterLinkDown afterColdReset startedByFlr startedByD3hot frsArrive frsOfDrs drsSet drsArrives insert insertAll dueFrom frsOfSlot frsOf happens happenAll tells settles framesOf frsSent four decode answerBytes answered readsVendorId crsOf pendingRoute phaseRoute routeOf crsData startsD3hot afterFlr afterD3hot writeSeat readEffect writeEffect hardwareEffect messageDone messageEffect clearedDev controlOf controlEffect statusBits advanceEffect linkUpEffect linkDownEffect coldResetEffect arrivals effect run
+unfolding bit number word listed replaced nanosOf powerOf sumOf leastOf endpointTable find endpointRow rowOf readsZero startsFlr laneMask held readWord writeBit writeWord resetBit linkReset flrReset hardwareSet resetWhere linkResetSlot flrResetSlot linkResetAll coldReset counted placeOf queues drops arrives arriveAll removed registerOf messagesOf kindOfEntry allReadyFrom eachFrom readyAfterLinkUp afterReset afterLinkDown afterColdReset startedByFlr startedByD3hot frsArrive frsOfDrs drsSet drsArrives insert insertAll dueFrom frsOfSlot frsOf happens tells momentEnds happenAll settles frsTold frsEnding framesOf frsSent four decode answerBytes answered readsVendorId crsOf pendingRoute phaseRoute routeOf crsData startsD3hot afterFlr afterD3hot writeSeat readEffect writeEffect hardwareEffect messageDone messageEffect clearedDev controlOf controlEffect statusBits advanceEffect linkUpEffect linkDownEffect coldResetEffect arrivals effect run
 computed setup defaults s r = run setup defaults s r
 
 -- ---- a card of one slot
@@ -61,15 +64,7 @@ with visibility interrupt signalling = record { visibility = visibility; «frs_i
 
 -- the link is up, the queue is empty and the status bits are 0
 abbrev port : (clock : ℕ) → PortControl.Control → Dev
-port clock control =
-    record {
-      clock = record { 0 = clock };
-      link = true;
-      owed = false;
-      «drs_received» = false;
-      control = control;
-      queue = record { start = 0; depth = 0; received = false; overflow = false };
-    }
+port clock control = withControl (withLink (withClock blankDev (record { 0 = clock })) true) control
 
 -- the slot is Ready; cache line 40h and interrupt line 0Bh were written, PME_Status is set, PowerState is 3
 abbrev live : (pmcsr : ℕ) → List ℕ
@@ -286,14 +281,7 @@ pme-not-cold-reset = refl
 abbrev busy : State
 busy =
     state
-    (record {
-      clock = ns 1000;
-      link = true;
-      owed = true;
-      «drs_received» = true;
-      control = with true true 2;
-      queue = record { start = 1; depth = 1; received = true; overflow = true };
-    })
+    (withQueue (withDrsReceived (withOwed (port 1000 (with true true 2)) true) true) (record { start = 1; depth = 1; received = true; overflow = true }))
     (pending cause.LinkUp (ns 1010) ∷ []) (live 0) (7 ∷ 0x00030100 ∷ [])
 
 -- link down: link and slot Down, nothing owed, queue emptied and cells untouched; DRS Received is cleared, Received and Overflow stay; the clock stays
@@ -487,3 +475,7 @@ decode-hardware = refl
 pub decode-unknown : decode (0x0E ∷ []) ≡ NoKind
 unfolding computed
 decode-unknown = refl
+
+-- ---- the blank port: nothing carried or broken
+pub blank-port : (blankPort .«carried_len» ≡ 0) × (blankPort .broken ≡ false)
+blank-port = (refl, refl)

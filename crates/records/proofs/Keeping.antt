@@ -10,20 +10,21 @@ use lib.Dec.{eqb, leb, ltb}
 use lib.ListN.{length, getD, set, take, drop, replicate, length-set, length-take, List·getD-eq-default}
 use lib.Seq.{getD-set-other, getD-take, getD-drop}
 use borrow.Author.Tests.{ltb-true, ltb-false, leb-true, le-leb, eqb-false}
+use Rattle.bits.proofs.Choices.{either-way}
 use Rattle.bits.specs.Bits.{bit}
 use Rattle.times.specs.declared.Nanos.{Nanos}
 use Rattle.times.specs.Codes.{nanosOf, allowed}
-use Rattle.times.specs.Moments.{greatestNanos, sumOf, leastOf}
+use Rattle.times.specs.Moments.{greatestNanos, sumOf, leastOf, clockEnd}
 use Rattle.times.proofs.Laws.{allowed-most, sum-plain, sum-code, least-both}
 use Rattle.messages.specs.declared.Message.{Message}
 use Rattle.messages.specs.declared.Message.the-variants.{Drs, Frs, NotReadiness}
-use Rattle.messages.specs.Messages.{Bytes, readMessage, frsReason}
-use Rattle.messages.proofs.Laid.{allowed-small}
+use Rattle.messages.specs.Messages.{Bytes, readMessage}
 use Rattle.messages.proofs.Cases.{cases}
 use Rattle.registers.specs.declared.Kind.{Kind}
 use Rattle.config_space.proofs.Slots.{link-reset-slot-length, flr-reset-slot-length, link-reset-all-length, cold-reset-defaults}
 use Rattle.registers.specs.Words.{writeWord}
 use Rattle.config_space.specs.Functions.{linkResetSlot}
+use Rattle.frs_queue.specs.declared.Frs as queueFrs
 use Rattle.frs_queue.specs.Queue.{noTally}
 use Rattle.readiness.specs.declared.Cause.the-variants as cause
 use Rattle.readiness.specs.declared.Phase.{Phase}
@@ -34,27 +35,27 @@ use Rattle.readiness.specs.declared.Setup.{Setup}
 use Rattle.readiness.specs.declared.Dev.{Dev}
 use Rattle.readiness.specs.Status.{ready, pending, isReady, entryOf, eachFrom, readyAfterLinkUp, statusAfterReset, afterReset, afterLinkDown, afterColdReset, flrMost, startedByFlr, startedByD3hot}
 use Rattle.readiness.specs.Root.{frsArrive, drsArrives, drsSet}
-use Rattle.readiness.proofs.Order.{either-way}
 use Rattle.readiness.proofs.Clauses.{each-at}
 use Rattle.records.specs.declared.Request.{Request}
 use Rattle.records.specs.declared.Record.{Record}
 use Rattle.records.specs.declared.Record.the-variants.{Advance, Read, Write, Message as MessageRecord, LinkUp, LinkDown, ColdReset, ReadQueue, RemoveOldest, ClearBits, Control, HardwareSet, ReadBits, NoKind}
 use Rattle.records.specs.declared.Completion.the-variants as completion
-use Rattle.records.specs.State.{State, state, Seat, seatOf, statusAt, kindOf, cardKind}
+use Rattle.records.specs.State.{State, state, Seat, seatOf, statusAt, sceneOf, slotKind}
 use Rattle.records.specs.Decode.{byte, decode}
 use Rattle.records.specs.Answer.{Effect, refused, does, answered}
 use Rattle.records.specs.Route.{routeOf, isAccess}
 use Rattle.records.specs.Requests.{wordAt, written, writeSeat, afterFlr, afterD3hot, readEffect, writeEffect, hardwareEffect}
 use Rattle.records.specs.PortRecords.{Front, frontRoot, messageDone, messageEffect, readQueueEffect, removeEffect, clearedDev, clearEffect, controlOf, controlEffect, readBitsEffect}
-use Rattle.records.specs.CardRecords.{clockEnd, advanceEffect, linkUpEffect, linkDownEffect, coldResetEffect}
+use Rattle.records.specs.CardRecords.{advanceEffect, linkUpEffect, linkDownEffect, coldResetEffect}
+use Rattle.records.specs.Arrivals.{ofRecord, arrivalsIn, arrivals}
 use Rattle.records.specs.Run.{atSlot, atPort, frontOf, effect, run}
 use Rattle.records.specs.Sound.{soundPhase, matchesLink, Sound, Fitting}
-use Rattle.records.proofs.SoundFacts.{flr-end-exactly, pending-exactly, phase-test, link-test}
+use Rattle.records.proofs.SoundFacts.{flr-end-exactly, pending-exactly, phase-test, link-test, cell-test}
 use Rattle.records.proofs.Parted.{no-slot-read, no-slot-write, no-slot-set, access-ready, write-cases}
-use Rattle.records.proofs.QueueKept.{SoundRing, cells-small, frs-keeps, drs-keeps, frs-cells, drs-cells, removed-keeps, empty-sound}
+use Rattle.records.proofs.QueueKept.{SoundRing, AllSoundFrs, both-sound, cells-sound, drs-sound, sent-sound, frs-keeps, drs-keeps, frs-cells, drs-cells, removed-keeps, empty-sound}
 use Rattle.records.proofs.SlotsKept.{set-keeps, length-each, each-past}
 use Rattle.records.proofs.Kept.{SoundSetup, SoundMessage, SoundRecord, Keeps, keeps-itself, keeps-on}
-use Rattle.records.proofs.Settled.{Starting, Settling, settle-sound}
+use Rattle.records.proofs.Settled.{Starting, Settling, slots-due, settle-sound}
 
 -- ---- what each record leaves before slots become Ready
 
@@ -99,7 +100,7 @@ module _ (setup : Setup) (good : SoundSetup setup) (defaults : List ℕ) (s : St
   EffectKeeps (does t tally v) = Settling setup defaults s t
 
   ring : SoundRing (s .cells) (s .dev .queue)
-  ring = record { start = h .start; depth = h .depth; small = cells-small (s .cells) (s .dev .queue) (h .cells) }
+  ring = record { start = h .start; depth = h .depth; values = cells-sound (s .cells) (s .dev .queue) (cell-test h) }
 
   phases-starting : (i : ℕ) → i < setup .slots → Starting (s .dev .clock) (statusAt (s .statuses) i .phase)
   phases-starting i l = sound-starting (s .dev .clock) (statusAt (s .statuses) i .phase) (phase-test h i l)
@@ -158,7 +159,7 @@ module _ (setup : Setup) (good : SoundSetup setup) (defaults : List ℕ) (s : St
         link = refl;
         owed = refl;
         signalling = h .signalling;
-        ring = frs-keeps (record { id = id; reason = reason } ∷ []) (frontRoot (frontOf s)) (let i = k .0 in let r = k .1 in omega arith, tt) ring;
+        ring = frs-keeps (record { id = id; reason = reason } ∷ []) (frontRoot (frontOf s)) (k, tt) ring;
         cells = frs-cells (record { id = id; reason = reason } ∷ []) (frontRoot (frontOf s));
       }
 
@@ -221,19 +222,19 @@ module _ (setup : Setup) (good : SoundSetup setup) (defaults : List ℕ) (s : St
     link-up : statusAt (s .statuses) i ≡ ready → s .dev .link ≡ true
     link-up e = sym (ap (λ (v : Status). matchesLink (s .dev .link) (v .phase)) e) ∙ link-test h i l
 
-    read-keeps : (q : Request) → SlotEffectKeeps (readEffect (setup .slots) (kindOf setup i) q (seatOf s i))
+    read-keeps : (q : Request) → SlotEffectKeeps (readEffect (setup .slots) (slotKind setup i) q (seatOf s i))
     unfolding readEffect
     read-keeps q =
-        either-way SlotEffectKeeps (isAccess (routeOf (setup .slots) (s .dev) (statusAt (s .statuses) i) true q)) _ _ (λ e. words-keep (s .live) refl) (λ e. tt)
+        either-way SlotEffectKeeps (isAccess (routeOf (setup .slots) (slotKind setup i) (s .dev) (statusAt (s .statuses) i) true q)) _ _ (λ e. words-keep (s .live) refl) (λ e. tt)
 
-    write-keeps : (q : Request) (value : ℕ) → SlotEffectKeeps (writeEffect (setup .slots) (kindOf setup i) (entryOf setup i) defaults q value (seatOf s i))
+    write-keeps : (q : Request) (value : ℕ) → SlotEffectKeeps (writeEffect (setup .slots) (slotKind setup i) (entryOf setup i) defaults q value (seatOf s i))
     unfolding writeEffect afterFlr afterD3hot startedByFlr startedByD3hot
     write-keeps q value =
-        either-way SlotEffectKeeps (isAccess (routeOf (setup .slots) (s .dev) (statusAt (s .statuses) i) false q)) _ _
-        (λ e. done (link-up (access-ready (setup .slots) (s .dev) (statusAt (s .statuses) i) false q e))) (λ e. tt)
+        either-way SlotEffectKeeps (isAccess (routeOf (setup .slots) (slotKind setup i) (s .dev) (statusAt (s .statuses) i) false q)) _ _
+        (λ e. done (link-up (access-ready (setup .slots) (slotKind setup i) (s .dev) (statusAt (s .statuses) i) false q e))) (λ e. tt)
       where
         kind : Kind
-        kind = kindOf setup i
+        kind = slotKind setup i
 
         new : ℕ
         new = writeWord kind (q .word) (wordAt (s .live) (q .slot) (q .word)) value (q .enables)
@@ -264,7 +265,7 @@ module _ (setup : Setup) (good : SoundSetup setup) (defaults : List ℕ) (s : St
             })
             (words-keep (w .live) words)
 
-    set-keeps-slot : (slot word mask : ℕ) → SlotEffectKeeps (hardwareEffect (setup .slots) (kindOf setup i) slot word mask (seatOf s i))
+    set-keeps-slot : (slot word mask : ℕ) → SlotEffectKeeps (hardwareEffect (setup .slots) (slotKind setup i) slot word mask (seatOf s i))
     unfolding hardwareEffect
     set-keeps-slot slot word mask =
         either-way SlotEffectKeeps (not (ltb slot (setup .slots))) _ _ (λ e. tt)
@@ -351,13 +352,13 @@ module _ (setup : Setup) (good : SoundSetup setup) (defaults : List ℕ) (s : St
         clock = h .clock;
         ring = empty-sound (s .cells) _ some-cells refl refl;
         signalling = h .signalling;
-        phases = all-anew (statusAfterReset setup) (λ (v : Status). Starting (s .dev .clock) (v .phase)) (λ i l. tt);
-        links = all-anew (statusAfterReset setup) (λ (v : Status). matchesLink false (v .phase) ≡ true) (λ i l. refl);
+        phases = all-anew (statusAfterReset setup (s .dev)) (λ (v : Status). Starting (s .dev .clock) (v .phase)) (λ i l. tt);
+        links = all-anew (statusAfterReset setup (s .dev)) (λ (v : Status). matchesLink false (v .phase) ≡ true) (λ i l. refl);
         owed = λ o. absurd (false≢true o);
-        past = past-anew (statusAfterReset setup);
+        past = past-anew (statusAfterReset setup (s .dev));
         cells = refl;
-        live = link-reset-all-length (cardKind setup) (s .live) defaults;
-        statuses = length-each (setup .slots) (statusAfterReset setup) 0 (s .statuses);
+        live = link-reset-all-length (slotKind setup) (s .live) defaults;
+        statuses = length-each (setup .slots) (statusAfterReset setup (s .dev)) 0 (s .statuses);
       })
       (λ e. tt)
 
@@ -368,13 +369,13 @@ module _ (setup : Setup) (good : SoundSetup setup) (defaults : List ℕ) (s : St
         clock = h .clock;
         ring = empty-sound (s .cells) _ some-cells refl refl;
         signalling = omega arith;
-        phases = all-anew (statusAfterReset setup) (λ (v : Status). Starting (s .dev .clock) (v .phase)) (λ i l. tt);
-        links = all-anew (statusAfterReset setup) (λ (v : Status). matchesLink false (v .phase) ≡ true) (λ i l. refl);
+        phases = all-anew (statusAfterReset setup (s .dev)) (λ (v : Status). Starting (s .dev .clock) (v .phase)) (λ i l. tt);
+        links = all-anew (statusAfterReset setup (s .dev)) (λ (v : Status). matchesLink false (v .phase) ≡ true) (λ i l. refl);
         owed = λ o. absurd (false≢true o);
-        past = past-anew (statusAfterReset setup);
+        past = past-anew (statusAfterReset setup (s .dev));
         cells = refl;
         live = ap length (cold-reset-defaults (s .live) defaults (fits .words ∙ sym (fits .defaultWords))) ∙ fits .defaultWords ∙ sym (fits .words);
-        statuses = length-each (setup .slots) (statusAfterReset setup) 0 (s .statuses);
+        statuses = length-each (setup .slots) (statusAfterReset setup (s .dev)) 0 (s .statuses);
       }
 
   -- ---- every record
@@ -382,12 +383,12 @@ module _ (setup : Setup) (good : SoundSetup setup) (defaults : List ℕ) (s : St
   unfolding effect messageEffect clearedDev
   effect-keeps (Advance by) k = advance-keeps by
   effect-keeps (Read q) k =
-      at-slot-keeps (q .slot) _ (λ l. read-keeps (q .slot) l q) (no-slot-read (setup .slots) (kindOf setup (q .slot)) (seatOf s (q .slot)) q)
+      at-slot-keeps (q .slot) _ (λ l. read-keeps (q .slot) l q) (no-slot-read (setup .slots) (slotKind setup (q .slot)) (seatOf s (q .slot)) q)
   effect-keeps (Write q value) k =
       at-slot-keeps (q .slot) _ (λ l. write-keeps (q .slot) l q value)
-      (no-slot-write (setup .slots) (kindOf setup (q .slot)) (seatOf s (q .slot)) (entryOf setup (q .slot)) defaults q value)
+      (no-slot-write (setup .slots) (slotKind setup (q .slot)) (seatOf s (q .slot)) (entryOf setup (q .slot)) defaults q value)
   effect-keeps (HardwareSet slot word mask) k =
-      at-slot-keeps slot _ (λ l. set-keeps-slot slot l slot word mask) (no-slot-set (setup .slots) (kindOf setup slot) (seatOf s slot) slot word mask)
+      at-slot-keeps slot _ (λ l. set-keeps-slot slot l slot word mask) (no-slot-set (setup .slots) (slotKind setup slot) (seatOf s slot) slot word mask)
   effect-keeps (MessageRecord m) k = port-settling (messageEffect (setup .«port_id») m (frontOf s)) (either-way PortEffectKeeps (s .dev .link) _ _ (λ e. message-keeps m k) (λ e. tt))
   effect-keeps LinkUp k = link-up-keeps
   effect-keeps LinkDown k = link-down-keeps
@@ -398,7 +399,7 @@ module _ (setup : Setup) (good : SoundSetup setup) (defaults : List ℕ) (s : St
       (record { clock = refl; link = refl; owed = refl; signalling = h .signalling; ring = removed-keeps (s .cells) (s .dev .queue) ring; cells = refl })
   effect-keeps (ClearBits mask) k =
       port-settling (clearEffect mask (frontOf s))
-      (record { clock = refl; link = refl; owed = refl; signalling = h .signalling; ring = record { start = h .start; depth = h .depth; small = cells-small (s .cells) (clearedDev mask (s .dev) .queue) (h .cells) }; cells = refl })
+      (record { clock = refl; link = refl; owed = refl; signalling = h .signalling; ring = record { start = h .start; depth = h .depth; values = cells-sound (s .cells) (clearedDev mask (s .dev) .queue) (cell-test h) }; cells = refl })
   effect-keeps (Control b) k = port-settling (controlEffect b (frontOf s)) (control-keeps b)
   effect-keeps ReadBits k = port-settling (readBitsEffect (frontOf s)) port-same
   effect-keeps NoKind k = port-settling (does (frontOf s) noTally 0) port-same
@@ -413,6 +414,35 @@ module _ (setup : Setup) (good : SoundSetup setup) (defaults : List ℕ) (s : St
   unfolding run
   run-keeps r k = answered-keeps (effect setup defaults s r) (effect-keeps r k)
 
+  -- ---- what arrives
+  own-sound : (r : Record) → SoundRecord r → AllSoundFrs (ofRecord setup s r)
+  own-sound (MessageRecord NotReadiness) k = tt
+  own-sound (MessageRecord (Drs id)) k = drs-sound (setup .«port_id») (s .dev) (good .portId)
+  own-sound (MessageRecord (Frs id reason)) k = (k, tt)
+  own-sound (Advance by) k = tt
+  own-sound (Read q) k = tt
+  own-sound (Write q value) k = tt
+  own-sound LinkUp k = tt
+  own-sound LinkDown k = tt
+  own-sound ColdReset k = tt
+  own-sound ReadQueue k = tt
+  own-sound RemoveOldest k = tt
+  own-sound (ClearBits mask) k = tt
+  own-sound (Control b) k = tt
+  own-sound (HardwareSet slot word mask) k = tt
+  own-sound ReadBits k = tt
+  own-sound NoKind k = tt
+
+  in-effect : (own : List queueFrs.Frs) → AllSoundFrs own → (e : Effect State) → EffectKeeps e → AllSoundFrs (arrivalsIn setup own e)
+  in-effect own o (refused c v) k = tt
+  in-effect own o (does t tally v) k =
+      both-sound own _ o (sent-sound setup (good .bus) (good .portId) (sceneOf t noTally) (slots-due setup good defaults s fits t k))
+
+  -- WHAT ARRIVES IN A RECORD has an ID of 16 bits and a reason that an FRS may have.
+  pub arrivals-sound : (r : Record) → SoundRecord r → AllSoundFrs (arrivals setup defaults s r)
+  unfolding arrivals
+  arrivals-sound r k = in-effect (ofRecord setup s r) (own-sound r k) (effect setup defaults s r) (effect-keeps r k)
+
 -- ---- records of bytes
 
 bytes-part : (n k : ℕ) (l : List ℕ) → Bytes l → Bytes (take n (drop k l))
@@ -425,9 +455,9 @@ bytes-part n k l b i = by (ltb i n) refl
         omega (arith, List·getD-eq-default (take n (drop k l)) 0 past)
 
 message-sound : (m : List ℕ) → Bytes m → SoundMessage (readMessage m)
-message-sound m b = cases SoundMessage m (λ l. tt) (λ l a. (omega (arith, b 4, b 5), allowed-small (frsReason m) a)) tt
+message-sound m b = cases SoundMessage m (λ l. tt) (λ l a. (omega (arith, b 4, b 5), a)) tt
 
--- A record that is read from bytes, any bytes, has an ID of 16 bits and a reason of 4.
+-- A record that is read from bytes, any bytes, has an ID of 16 bits and a reason that an FRS may have.
 pub decode-sound : (r : List ℕ) → Bytes r → SoundRecord (decode r)
 unfolding decode
 decode-sound r b =

@@ -6,6 +6,7 @@ use mathlib.Core.Bool.{true}
 use mathlib.Core.List.{List}
 use lib.ListN.{length}
 use Rattle.times.specs.Codes.{allowed}
+use Rattle.messages.specs.Messages.{frsAllowed}
 use Rattle.messages.specs.declared.Message.{Message}
 use Rattle.messages.specs.declared.Message.the-variants.{Drs, Frs, NotReadiness}
 use Rattle.readiness.specs.declared.Slot.{Slot}
@@ -30,11 +31,11 @@ pub record SoundSetup (setup : Setup) : Type 0 where
   pub portId : setup .«port_id» < 65536
   pub codes : (i : ℕ) → i < setup .slots → CodesAllowed (entryOf setup i)
 
--- a message that fits a queue cell: an ID of 16 bits and a reason of 4
+-- a message that fits a queue cell: an ID of 16 bits and a reason that an FRS may have
 abbrev pub SoundMessage : Message → Type 0
 SoundMessage NotReadiness = Unit {0}
 SoundMessage (Drs id) = Unit {0}
-SoundMessage (Frs id reason) = (id < 65536) × (reason < 16)
+SoundMessage (Frs id reason) = (id < 65536) × (frsAllowed reason ≡ true)
 
 abbrev pub SoundRecord : Record → Type 0
 SoundRecord (MessageRecord m) = SoundMessage m

@@ -10,13 +10,14 @@ use lib.Dec.{leb}
 use lib.ListN.{length}
 use lib.Seq.{getD-set-other}
 use borrow.Author.Tests.{le-leb, lt-leb, ltb-false}
+use Rattle.bits.proofs.Choices.{either-way}
 use Rattle.bits.specs.Bits.{bit}
 use Rattle.times.specs.declared.Nanos.{Nanos}
-use Rattle.times.specs.Moments.{greatestNanos, sumOf}
+use Rattle.times.specs.Moments.{greatestNanos, sumOf, clockEnd}
 use Rattle.registers.specs.declared.Kind.{Kind}
 use Rattle.registers.specs.declared.Kind.the-variants.{Endpoint}
-use Rattle.registers.specs.Rows.{startsFlr, deviceControl, deviceZeros, readsZero}
-use Rattle.registers.specs.Words.{writeWord, hardwareSet}
+use Rattle.registers.specs.Rows.{flrCapabilityWord, startsFlr, deviceControl, deviceZeros, readsZero}
+use Rattle.registers.specs.Words.{writeWord, hardwareSet, startsD3hot}
 use Rattle.config_space.specs.Functions.{linkResetSlot}
 use Rattle.registers.proofs.Laws.{read-zero}
 use Rattle.config_space.proofs.Slots.{link-reset-slot-others, flr-reset-slot-others}
@@ -32,7 +33,7 @@ use Rattle.readiness.specs.declared.Dev.{Dev}
 use Rattle.readiness.specs.Status.{ready, entryOf, afterReset, afterLinkDown, afterColdReset}
 use Rattle.readiness.specs.Root.{frsArrive, drsSet, drsArrives}
 use Rattle.readiness.specs.Settle.{Scene, advances}
-use Rattle.readiness.proofs.Order.{either-way, phaseBy, readyBy}
+use Rattle.readiness.proofs.Order.{phaseBy, readyBy}
 use Rattle.readiness.proofs.Scenes.{fresh, settled-kept, settled-statuses}
 use Rattle.readiness.proofs.TwoAdvances.{together, two-advances}
 use Rattle.records.specs.declared.Request.{Request}
@@ -40,12 +41,12 @@ use Rattle.records.specs.declared.Record.{Record}
 use Rattle.records.specs.declared.Record.the-variants.{Advance, Read, Write, Message, LinkUp, LinkDown, ColdReset, ReadQueue, RemoveOldest, ClearBits, Control, HardwareSet, ReadBits, NoKind}
 use Rattle.records.specs.declared.Completion.the-variants as completion
 use Rattle.records.specs.declared.Reply.{Reply}
-use Rattle.records.specs.State.{State, state, Seat, seatOf, statusAt, wordPlace, sceneOf, withLive, kindOf}
+use Rattle.records.specs.State.{State, state, Seat, seatOf, statusAt, wordPlace, sceneOf, withLive, slotKind}
 use Rattle.records.specs.Decode.{four}
 use Rattle.records.specs.Answer.{Effect, refused, does, Ran, reply, answered, answerBytes, completionNumber}
-use Rattle.records.specs.Requests.{wordAt, startsD3hot, afterFlr, afterD3hot, written, writeSeat}
+use Rattle.records.specs.Requests.{wordAt, afterFlr, afterD3hot, written, writeSeat}
 use Rattle.records.specs.PortRecords.{clearedDev}
-use Rattle.records.specs.CardRecords.{clockEnd, advanceEffect}
+use Rattle.records.specs.CardRecords.{advanceEffect}
 use Rattle.records.specs.Run.{effect, run}
 use Rattle.records.specs.Sound.{soundPhase, Sound}
 use Rattle.records.proofs.SoundFacts.{pending-exactly, phase-test}
@@ -111,15 +112,15 @@ pub write-dev : (kind : Kind) (entry : Slot) (defaults : List ℕ) (q : Request)
 unfolding writeSeat afterFlr afterD3hot
 write-dev kind entry defaults q value z =
     let old = wordAt (z .live) (q .slot) (q .word) in
-    either-way (λ (y : Seat). y .dev ≡ z .dev) (startsFlr kind (q .word) value (q .enables) (wordAt defaults (q .slot) 0x1D)) _ _ (λ e. refl)
-    (λ e. either-way (λ (y : Seat). y .dev ≡ z .dev) (startsD3hot (q .word) old (writeWord kind (q .word) old value (q .enables))) _ _ (λ f. refl) (λ f. refl))
+    either-way (λ (y : Seat). y .dev ≡ z .dev) (startsFlr kind (q .word) value (q .enables) (wordAt defaults (q .slot) (flrCapabilityWord kind))) _ _ (λ e. refl)
+    (λ e. either-way (λ (y : Seat). y .dev ≡ z .dev) (startsD3hot kind (q .word) old (writeWord kind (q .word) old value (q .enables))) _ _ (λ f. refl) (λ f. refl))
 
 pub write-cells : (kind : Kind) (entry : Slot) (defaults : List ℕ) (q : Request) (value : ℕ) (z : Seat) → writeSeat kind entry defaults q value z .cells ≡ z .cells
 unfolding writeSeat afterFlr afterD3hot
 write-cells kind entry defaults q value z =
     let old = wordAt (z .live) (q .slot) (q .word) in
-    either-way (λ (y : Seat). y .cells ≡ z .cells) (startsFlr kind (q .word) value (q .enables) (wordAt defaults (q .slot) 0x1D)) _ _ (λ e. refl)
-    (λ e. either-way (λ (y : Seat). y .cells ≡ z .cells) (startsD3hot (q .word) old (writeWord kind (q .word) old value (q .enables))) _ _ (λ f. refl) (λ f. refl))
+    either-way (λ (y : Seat). y .cells ≡ z .cells) (startsFlr kind (q .word) value (q .enables) (wordAt defaults (q .slot) (flrCapabilityWord kind))) _ _ (λ e. refl)
+    (λ e. either-way (λ (y : Seat). y .cells ≡ z .cells) (startsD3hot kind (q .word) old (writeWord kind (q .word) old value (q .enables))) _ _ (λ f. refl) (λ f. refl))
 
 same-clock : (setup : Setup) (defaults : List ℕ) (s : State) → Every (SameClock s) setup defaults s
 unfolding frsArrive drsArrives drsSet clearedDev afterReset afterLinkDown afterColdReset
@@ -127,7 +128,7 @@ same-clock setup defaults s =
     record {
       advance = λ by e n. absurd (false≢true (sym n));
       read = λ q e n. refl;
-      write = λ q value e n. ap (λ (d : Dev). d .clock) (write-dev (kindOf setup (q .slot)) (entryOf setup (q .slot)) defaults q value (seatOf s (q .slot)));
+      write = λ q value e n. ap (λ (d : Dev). d .clock) (write-dev (slotKind setup (q .slot)) (entryOf setup (q .slot)) defaults q value (seatOf s (q .slot)));
       drs = λ id e n. refl;
       frs = λ id reason e n. refl;
       linkUp = λ e n. refl;
@@ -253,7 +254,7 @@ unfolding bit
 device-control-reads-0 setup defaults s q w z = (at 15 (omega arith) refl, at 21 (omega arith) refl)
   where
     kind : Kind
-    kind = kindOf setup (q .slot)
+    kind = slotKind setup (q .slot)
 
     at : (k : ℕ) → k < 32 → bit deviceZeros k ≡ true → bit (dataOf setup defaults s (Read q)) k ≡ false
     at k l e =
@@ -300,10 +301,10 @@ write-live : (kind : Kind) (entry : Slot) (defaults : List ℕ) (q : Request) (v
     → wordAt (writeSeat kind entry defaults q value z .live) slot word ≡ wordAt (z .live) slot word
 unfolding writeSeat afterFlr afterD3hot
 write-live kind entry defaults q value z slot word n h k =
-    either-way Same (startsFlr kind (q .word) value (q .enables) (wordAt defaults (q .slot) 0x1D)) (afterFlr kind entry defaults (q .slot) w) _
+    either-way Same (startsFlr kind (q .word) value (q .enables) (wordAt defaults (q .slot) (flrCapabilityWord kind))) (afterFlr kind entry defaults (q .slot) w) _
     (λ e. flr-reset-slot-others kind (q .slot) (w .live) defaults (wordPlace slot word) other ∙ here)
     (λ e.
-    either-way Same (startsD3hot (q .word) old new) (afterD3hot kind entry defaults (q .slot) new w) w
+    either-way Same (startsD3hot kind (q .word) old new) (afterD3hot kind entry defaults (q .slot) new w) w
     (λ f.
     either-way (λ (l : List ℕ). wordAt l slot word ≡ wordAt (z .live) slot word) (bit new 3) (w .live) (linkResetSlot kind (q .slot) (w .live) defaults) (λ g. here)
     (λ g. link-reset-slot-others kind (q .slot) (w .live) defaults (wordPlace slot word) other ∙ here))
@@ -336,11 +337,11 @@ others-left setup defaults s slot =
           λ q value e a x n.
           let m : slot ≢ q .slot = λ p. n (p ∙ x) in
           let entry = entryOf setup (q .slot) in
-          let kind = kindOf setup (q .slot) in
+          let kind = slotKind setup (q .slot) in
           record {
             clock = ap (λ (d : Dev). d .clock) (write-dev kind entry defaults q value (seatOf s (q .slot)));
             same = record {
-              registers = λ word h. write-live kind entry defaults q value (seatOf s (q .slot)) slot word m h (access-facts (setup .slots) (s .dev) (statusAt (s .statuses) (q .slot)) false q e .0 .word);
+              registers = λ word h. write-live kind entry defaults q value (seatOf s (q .slot)) slot word m h (access-facts (setup .slots) (slotKind setup (q .slot)) (s .dev) (statusAt (s .statuses) (q .slot)) false q e .0 .word);
               status = getD-set-other (s .statuses) (q .slot) slot _ ready m;
             };
           };

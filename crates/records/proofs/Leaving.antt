@@ -7,8 +7,9 @@ use mathlib.Core.Path.{_≡_, sym, ap, subst}
 use lib.Dec.{leb, ltb, eqb}
 use lib.ListN.{length, set}
 use lib.Seq.{set-getD}
+use Rattle.bits.proofs.Choices.{either-way}
 use Rattle.times.specs.declared.Nanos.{Nanos}
-use Rattle.times.specs.Moments.{sumOf}
+use Rattle.times.specs.Moments.{sumOf, clockEnd}
 use Rattle.messages.specs.declared.Message.{Message}
 use Rattle.messages.specs.declared.Message.the-variants.{Drs, Frs, NotReadiness}
 use Rattle.registers.specs.Words.{readWord, hardwareSet}
@@ -20,17 +21,17 @@ use Rattle.readiness.specs.declared.Setup.{Setup}
 use Rattle.readiness.specs.declared.Dev.{Dev}
 use Rattle.readiness.specs.Status.{ready, isReady, entryOf, startedByLinkUp, afterLinkUp, stoppedByReset, afterLinkDown, afterColdReset}
 use Rattle.readiness.specs.Root.{Root, frsArrive, drsArrives}
-use Rattle.readiness.proofs.Order.{either-way}
 use Rattle.records.specs.declared.Request.{Request}
 use Rattle.records.specs.declared.Route.{Route}
 use Rattle.records.specs.declared.Record.{Record}
 use Rattle.records.specs.declared.Record.the-variants.{Advance, Read, Write, Message as MessageRecord, LinkUp, LinkDown, ColdReset, ReadQueue, RemoveOldest, ClearBits, Control, HardwareSet, ReadBits, NoKind}
-use Rattle.records.specs.State.{State, state, Seat, seatOf, putBack, kindOf, cardKind, wordPlace, rootOf}
+use Rattle.records.specs.State.{State, state, Seat, seatOf, putBack, slotKind, wordPlace, rootOf}
 use Rattle.records.specs.Answer.{Effect, refused, does}
 use Rattle.records.specs.Route.{routeOf, isAccess}
 use Rattle.records.specs.Requests.{wordAt, writeSeat, readEffect, writeEffect, hardwareEffect}
-use Rattle.records.specs.PortRecords.{Front, messageDone, messageEffect, withQueue, clearedDev, withControl, controlOf, controlEffect, statusBits}
-use Rattle.records.specs.CardRecords.{clockEnd, withClock, advanceEffect, linkUpEffect, linkDownEffect, coldResetEffect}
+use Rattle.records.specs.PortRecords.{Front, messageDone, messageEffect, clearedDev, controlOf, controlEffect, statusBits}
+use Rattle.readiness.specs.Fields.{withClock, withQueue, withControl}
+use Rattle.records.specs.CardRecords.{advanceEffect, linkUpEffect, linkDownEffect, coldResetEffect}
 use Rattle.records.specs.Run.{atSlot, atPort, frontOf, effect}
 
 -- what a record leaves, brings and gives as data, if it is done
@@ -49,29 +50,29 @@ withRoot x s = state (x .dev) (s .statuses) (s .live) (x .cells)
 
 -- the route of a request
 abbrev pub routed : Setup → State → (isRead : Bool) → Request → Route
-routed setup s isRead q = routeOf (setup .slots) (s .dev) (seatOf s (q .slot) .status) isRead q
+routed setup s isRead q = routeOf (setup .slots) (slotKind setup (q .slot)) (s .dev) (seatOf s (q .slot) .status) isRead q
 
 abbrev pub advancedBy : Nanos → State → State
 advancedBy by s = withDev (withClock (s .dev) (sumOf (s .dev .clock) by)) s
 
 abbrev pub wordRead : Setup → State → Request → ℕ
-wordRead setup s q = readWord (kindOf setup (q .slot)) (q .word) (wordAt (s .live) (q .slot) (q .word)) (q .enables)
+wordRead setup s q = readWord (slotKind setup (q .slot)) (q .word) (wordAt (s .live) (q .slot) (q .word)) (q .enables)
 
 abbrev pub seatWritten : Setup → (defaults : List ℕ) → State → Request → (value : ℕ) → Seat
-seatWritten setup defaults s q value = writeSeat (kindOf setup (q .slot)) (entryOf setup (q .slot)) defaults q value (seatOf s (q .slot))
+seatWritten setup defaults s q value = writeSeat (slotKind setup (q .slot)) (entryOf setup (q .slot)) defaults q value (seatOf s (q .slot))
 
 abbrev pub wordSet : Setup → State → (slot word mask : ℕ) → State
 wordSet setup s slot word mask =
-    state (s .dev) (s .statuses) (set (s .live) (wordPlace slot word) (hardwareSet (kindOf setup slot) word (wordAt (s .live) slot word) mask)) (s .cells)
+    state (s .dev) (s .statuses) (set (s .live) (wordPlace slot word) (hardwareSet (slotKind setup slot) word (wordAt (s .live) slot word) mask)) (s .cells)
 
 abbrev pub linkedUp : Setup → State → State
 linkedUp setup s = state (afterLinkUp (s .dev)) (startedByLinkUp setup (s .dev) (s .statuses)) (s .live) (s .cells)
 
 abbrev pub linkedDown : Setup → (defaults : List ℕ) → State → State
-linkedDown setup defaults s = state (afterLinkDown (s .dev)) (stoppedByReset setup (s .statuses)) (linkResetAll (cardKind setup) (s .live) defaults) (s .cells)
+linkedDown setup defaults s = state (afterLinkDown (s .dev)) (stoppedByReset setup (s .dev) (s .statuses)) (linkResetAll (slotKind setup) (s .live) defaults) (s .cells)
 
 abbrev pub coldStarted : Setup → (defaults : List ℕ) → State → State
-coldStarted setup defaults s = state (afterColdReset (s .dev)) (stoppedByReset setup (s .statuses)) (coldReset (s .live) defaults) (s .cells)
+coldStarted setup defaults s = state (afterColdReset (s .dev)) (stoppedByReset setup (s .dev) (s .statuses)) (coldReset (s .live) defaults) (s .cells)
 
 -- P holds of what each kind of record leaves that is done
 pub record Every (P : Record → State → Tally → ℕ → Type 0) (setup : Setup) (defaults : List ℕ) (s : State) : Type 0 where
@@ -112,7 +113,7 @@ module _ (P : Record → State → Tally → ℕ → Type 0) (setup : Setup) (de
   read-leaves : (q : Request) → Leaves (P (Read q)) (effect setup defaults s (Read q))
   unfolding effect readEffect
   read-leaves q =
-      at-slot (P (Read q)) s (q .slot) (readEffect (setup .slots) (kindOf setup (q .slot)) q (seatOf s (q .slot)))
+      at-slot (P (Read q)) s (q .slot) (readEffect (setup .slots) (slotKind setup (q .slot)) q (seatOf s (q .slot)))
       (either-way (Leaves (λ (z : Seat) (tally : Tally) (d : ℕ). P (Read q) (putBack s (q .slot) z) tally d)) (isAccess (routed setup s true q)) _ _
       (λ e. subst (λ (t : State). P (Read q) t noTally (wordRead setup s q)) (same-status s (q .slot) (s .live)) (h .read q e))
       (λ e. tt))
@@ -120,7 +121,7 @@ module _ (P : Record → State → Tally → ℕ → Type 0) (setup : Setup) (de
   write-leaves : (q : Request) (value : ℕ) → Leaves (P (Write q value)) (effect setup defaults s (Write q value))
   unfolding effect writeEffect
   write-leaves q value =
-      at-slot (P (Write q value)) s (q .slot) (writeEffect (setup .slots) (kindOf setup (q .slot)) (entryOf setup (q .slot)) defaults q value (seatOf s (q .slot)))
+      at-slot (P (Write q value)) s (q .slot) (writeEffect (setup .slots) (slotKind setup (q .slot)) (entryOf setup (q .slot)) defaults q value (seatOf s (q .slot)))
       (either-way (Leaves (λ (z : Seat) (tally : Tally) (d : ℕ). P (Write q value) (putBack s (q .slot) z) tally d)) (isAccess (routed setup s false q)) _ _
       (λ e. h .write q value e) (λ e. tt))
 
@@ -128,7 +129,7 @@ module _ (P : Record → State → Tally → ℕ → Type 0) (setup : Setup) (de
   unfolding effect hardwareEffect
   hardware-leaves slot word mask =
       let Q : Effect Seat → Type 0 = Leaves (λ (z : Seat) (tally : Tally) (d : ℕ). P (HardwareSet slot word mask) (putBack s slot z) tally d) in
-      at-slot (P (HardwareSet slot word mask)) s slot (hardwareEffect (setup .slots) (kindOf setup slot) slot word mask (seatOf s slot))
+      at-slot (P (HardwareSet slot word mask)) s slot (hardwareEffect (setup .slots) (slotKind setup slot) slot word mask (seatOf s slot))
       (either-way Q (not (ltb slot (setup .slots))) _ _ (λ e. tt)
       (λ e. either-way Q (ltb 63 word) _ _ (λ f. tt)
       (λ f. either-way Q (not (isReady (seatOf s slot .status))) _ _ (λ g. tt)

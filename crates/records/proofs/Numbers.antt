@@ -11,8 +11,9 @@ use borrow.Author.Tests.{ltb-true, ltb-false, lt-ltb, le-ltb, eqb-true, eq-eqb, 
 use Rattle.bits.specs.Bits.{bit}
 use Rattle.bits.proofs.Tests.{both-left, both-right}
 use Rattle.registers.specs.Words.{laneMask, hardwareSet}
+use Rattle.registers.specs.declared.Kind.{Kind}
 use Rattle.times.specs.declared.Nanos.{Nanos}
-use Rattle.times.specs.Moments.{sumOf}
+use Rattle.times.specs.Moments.{sumOf, clockEnd}
 use Rattle.messages.specs.declared.Message.{Message}
 use Rattle.messages.specs.declared.Message.the-variants.{Drs, Frs, NotReadiness}
 use Rattle.frs_queue.specs.Queue.{noTally}
@@ -33,12 +34,13 @@ use Rattle.records.specs.declared.Route.{Route}
 use Rattle.records.specs.declared.Route.the-variants as route
 use Rattle.records.specs.declared.Record.{Record}
 use Rattle.records.specs.declared.Record.the-variants as kind
-use Rattle.records.specs.State.{State, Seat, statusAt, seatOf, kindOf}
+use Rattle.records.specs.State.{State, Seat, statusAt, seatOf, slotKind}
 use Rattle.records.specs.Answer.{Effect, refused, does, Ran, reply, answered, completionNumber}
 use Rattle.records.specs.Route.{readsVendorId, crsOf, pendingRoute, phaseRoute, routeOf, crsCompletion, routeCompletion, crsData, readData, refusedData, isAccess}
 use Rattle.records.specs.Requests.{wordAt, written, readEffect, writeEffect, hardwareEffect, readDone, writeDone}
-use Rattle.records.specs.PortRecords.{Front, front, messageDone, messageEffect, withControl, controlOf, controlEffect}
-use Rattle.records.specs.CardRecords.{clockEnd, advanceEffect, linkUpEffect, linkDownEffect, coldResetEffect}
+use Rattle.readiness.specs.Fields.{withControl}
+use Rattle.records.specs.PortRecords.{Front, front, messageDone, messageEffect, controlOf, controlEffect}
+use Rattle.records.specs.CardRecords.{advanceEffect, linkUpEffect, linkDownEffect, coldResetEffect}
 use Rattle.records.specs.Run.{atSlot, atPort, frontOf, effect, run}
 use Rattle.records.proofs.Leaving.{routed, wordRead, advancedBy, linkedUp, linkedDown}
 
@@ -84,45 +86,45 @@ crs-retry true isRead q n = by (readsVendorId isRead q) refl
     by true e = absurd (n (shows e))
     by false e = refl
 
-module _ (slots : ℕ) (dev : Dev) (status : Status) (isRead : Bool) (q : Request) where
+module _ (slots : ℕ) (kind : Kind) (dev : Dev) (status : Status) (isRead : Bool) (q : Request) where
   abbrev shownOrNot : Crs
   shownOrNot = crsOf (dev .control .visibility) isRead q
 
   -- 20: no such slot
-  pub goes-no-slot : slots ≤ q .slot → routeOf slots dev status isRead q ≡ route.NoSlot
+  pub goes-no-slot : slots ≤ q .slot → routeOf slots kind dev status isRead q ≡ route.NoSlot
   unfolding routeOf
   goes-no-slot h = rw (le-ltb (q .slot) slots h)
 
   -- 21: word above 63
-  pub goes-no-word : q .slot < slots → 63 < q .word → routeOf slots dev status isRead q ≡ route.NoWord
+  pub goes-no-word : q .slot < slots → 63 < q .word → routeOf slots kind dev status isRead q ≡ route.NoWord
   unfolding routeOf
   goes-no-word h k = rw (lt-ltb (q .slot) slots h, lt-ltb 63 (q .word) k)
 
   -- 24: enables above 15
-  pub goes-bad-enables : q .slot < slots → q .word ≤ 63 → 15 < q .enables → routeOf slots dev status isRead q ≡ route.BadEnables
+  pub goes-bad-enables : q .slot < slots → q .word ≤ 63 → 15 < q .enables → routeOf slots kind dev status isRead q ≡ route.BadEnables
   unfolding routeOf
   goes-bad-enables h k l = rw (lt-ltb (q .slot) slots h, le-ltb 63 (q .word) k, lt-ltb 15 (q .enables) l)
 
-  looked : Looked slots q → routeOf slots dev status isRead q ≡ cond (not (dev .link)) route.LinkDown (phaseRoute (dev .clock) (status .phase) shownOrNot)
+  looked : Looked slots q → routeOf slots kind dev status isRead q ≡ cond (not (dev .link)) route.LinkDown (phaseRoute (dev .clock) (status .phase) shownOrNot)
   unfolding routeOf
   looked h = rw (lt-ltb (q .slot) slots (h .slot), le-ltb 63 (q .word) (h .word), le-ltb 15 (q .enables) (h .enables))
 
   -- 18: link down,
-  pub goes-link-down : Looked slots q → dev .link ≡ false → routeOf slots dev status isRead q ≡ route.LinkDown
+  pub goes-link-down : Looked slots q → dev .link ≡ false → routeOf slots kind dev status isRead q ≡ route.LinkDown
   goes-link-down h e = looked h ∙ ap (λ (b : Bool). cond (not b) route.LinkDown (phaseRoute (dev .clock) (status .phase) shownOrNot)) e
 
-  pub by-phase : Looked slots q → dev .link ≡ true → (p : Phase) → status .phase ≡ p → routeOf slots dev status isRead q ≡ phaseRoute (dev .clock) p shownOrNot
+  pub by-phase : Looked slots q → dev .link ≡ true → (p : Phase) → status .phase ≡ p → routeOf slots kind dev status isRead q ≡ phaseRoute (dev .clock) p shownOrNot
   by-phase h e p f =
       looked h ∙ ap (λ (b : Bool). cond (not b) route.LinkDown (phaseRoute (dev .clock) (status .phase) shownOrNot)) e
       ∙ ap (λ (p : Phase). phaseRoute (dev .clock) p shownOrNot) f
 
-  pub goes-down : Looked slots q → dev .link ≡ true → status .phase ≡ Down → routeOf slots dev status isRead q ≡ route.LinkDown
+  pub goes-down : Looked slots q → dev .link ≡ true → status .phase ≡ Down → routeOf slots kind dev status isRead q ≡ route.LinkDown
   unfolding phaseRoute
   goes-down h e f = by-phase h e Down f
 
   -- or FLR in progress
   pub goes-flr : (end t : Nanos) → Looked slots q → dev .link ≡ true → status .phase ≡ Pending (Flr end) t → dev .clock .0 < end .0
-      → routeOf slots dev status isRead q ≡ route.FlrInProgress end
+      → routeOf slots kind dev status isRead q ≡ route.FlrInProgress end
   unfolding phaseRoute pendingRoute
   goes-flr end t h e f l =
       by-phase h e (Pending (Flr end) t) f
@@ -136,13 +138,13 @@ module _ (slots : ℕ) (dev : Dev) (status : Status) (isRead : Bool) (q : Reques
 
   -- 16 or 17: CRS, the slot is Pending
   pub goes-starting : (cause : Cause) (t : Nanos) → Looked slots q → dev .link ≡ true → status .phase ≡ Pending cause t → flrInProgress (dev .clock) status ≡ false
-      → routeOf slots dev status isRead q ≡ route.Starting cause t (crsOf (dev .control .visibility) isRead q)
+      → routeOf slots kind dev status isRead q ≡ route.Starting cause t (crsOf (dev .control .visibility) isRead q)
   unfolding phaseRoute
   goes-starting cause t h e f n =
       by-phase h e (Pending cause t) f ∙ starts cause t (sym (ap (progressPhase (dev .clock)) f) ∙ n)
 
   -- 0: the slot is Ready
-  pub goes-access : Looked slots q → dev .link ≡ true → status .phase ≡ Ready → routeOf slots dev status isRead q ≡ route.Access
+  pub goes-access : Looked slots q → dev .link ≡ true → status .phase ≡ Ready → routeOf slots kind dev status isRead q ≡ route.Access
   unfolding phaseRoute
   goes-access h e f = by-phase h e Ready f
 
@@ -171,7 +173,7 @@ module _ (slots : ℕ) (dev : Dev) (status : Status) (isRead : Bool) (q : Reques
   because-phase (Pending (Flr end) t) h e f = because-flr end t (ltb (dev .clock .0) (end .0)) refl h e f
 
   -- Every request goes where it goes by the order 20, 21, 24, 18, then 16 or 17.
-  pub goes-because : Because (routeOf slots dev status isRead q)
+  pub goes-because : Because (routeOf slots kind dev status isRead q)
   unfolding routeOf
   goes-because = at-slot (ltb (q .slot) slots) refl
     where
@@ -195,8 +197,8 @@ module _ (slots : ℕ) (dev : Dev) (status : Status) (isRead : Bool) (q : Reques
       at-slot false e = ltb-false (q .slot) slots e
 
   -- a request that reaches the slot's registers
-  pub access-facts : isAccess (routeOf slots dev status isRead q) ≡ true → Looked slots q × (dev .link ≡ true) × (status .phase ≡ Ready)
-  access-facts e = by (routeOf slots dev status isRead q) goes-because e
+  pub access-facts : isAccess (routeOf slots kind dev status isRead q) ≡ true → Looked slots q × (dev .link ≡ true) × (status .phase ≡ Ready)
+  access-facts e = by (routeOf slots kind dev status isRead q) goes-because e
     where
       by : (r : Route) → Because r → isAccess r ≡ true → Looked slots q × (dev .link ≡ true) × (status .phase ≡ Ready)
       by route.NoSlot b e = absurd (false≢true e)
@@ -262,42 +264,42 @@ module _ (setup : Setup) (defaults : List ℕ) (s : State) where
 
   -- Kinds 02 and 03. 20: no such slot.
   pub status-20 : (isRead : Bool) (q : Request) (value : ℕ) → setup .slots ≤ q .slot → statusOf setup defaults s (request isRead q value) ≡ 20
-  status-20 isRead q value h = goes isRead q value route.NoSlot (goes-no-slot (setup .slots) (s .dev) (slotStatus q) isRead q h)
+  status-20 isRead q value h = goes isRead q value route.NoSlot (goes-no-slot (setup .slots) (slotKind setup (q .slot)) (s .dev) (slotStatus q) isRead q h)
 
   -- Else 21: word above 63.
   pub status-21 : (isRead : Bool) (q : Request) (value : ℕ) → q .slot < setup .slots → 63 < q .word → statusOf setup defaults s (request isRead q value) ≡ 21
-  status-21 isRead q value h k = goes isRead q value route.NoWord (goes-no-word (setup .slots) (s .dev) (slotStatus q) isRead q h k)
+  status-21 isRead q value h k = goes isRead q value route.NoWord (goes-no-word (setup .slots) (slotKind setup (q .slot)) (s .dev) (slotStatus q) isRead q h k)
 
   -- Else 24: enables above 15.
   pub status-24 : (isRead : Bool) (q : Request) (value : ℕ) → q .slot < setup .slots → q .word ≤ 63 → 15 < q .enables → statusOf setup defaults s (request isRead q value) ≡ 24
-  status-24 isRead q value h k l = goes isRead q value route.BadEnables (goes-bad-enables (setup .slots) (s .dev) (slotStatus q) isRead q h k l)
+  status-24 isRead q value h k l = goes isRead q value route.BadEnables (goes-bad-enables (setup .slots) (slotKind setup (q .slot)) (s .dev) (slotStatus q) isRead q h k l)
 
   -- Else 18: link down,
   pub status-18-link : (isRead : Bool) (q : Request) (value : ℕ) → Looked (setup .slots) q → s .dev .link ≡ false → statusOf setup defaults s (request isRead q value) ≡ 18
-  status-18-link isRead q value h e = goes isRead q value route.LinkDown (goes-link-down (setup .slots) (s .dev) (slotStatus q) isRead q h e)
+  status-18-link isRead q value h e = goes isRead q value route.LinkDown (goes-link-down (setup .slots) (slotKind setup (q .slot)) (s .dev) (slotStatus q) isRead q h e)
 
   -- or FLR in progress: the clock is below its end.
   pub status-18-flr : (isRead : Bool) (q : Request) (value : ℕ) (end t : Nanos) → Looked (setup .slots) q → s .dev .link ≡ true → slotStatus q .phase ≡ Pending (Flr end) t
       → s .dev .clock .0 < end .0 → statusOf setup defaults s (request isRead q value) ≡ 18
-  status-18-flr isRead q value end t h e f l = goes isRead q value (route.FlrInProgress end) (goes-flr (setup .slots) (s .dev) (slotStatus q) isRead q end t h e f l)
+  status-18-flr isRead q value end t h e f l = goes isRead q value (route.FlrInProgress end) (goes-flr (setup .slots) (slotKind setup (q .slot)) (s .dev) (slotStatus q) isRead q end t h e f l)
 
   -- Else, where the slot is Pending: 16 if CRS is shown,
   pub status-16 : (isRead : Bool) (q : Request) (value : ℕ) (cause : Cause) (t : Nanos) → Looked (setup .slots) q → s .dev .link ≡ true → slotStatus q .phase ≡ Pending cause t
       → flrInProgress (s .dev .clock) (slotStatus q) ≡ false → Shows (s .dev .control .visibility) isRead q → statusOf setup defaults s (request isRead q value) ≡ 16
   status-16 isRead q value cause t h e f n w =
       goes isRead q value (route.Starting cause t Shown)
-      (goes-starting (setup .slots) (s .dev) (slotStatus q) isRead q cause t h e f n ∙ ap (route.Starting cause t) (crs-shown (s .dev .control .visibility) isRead q w))
+      (goes-starting (setup .slots) (slotKind setup (q .slot)) (s .dev) (slotStatus q) isRead q cause t h e f n ∙ ap (route.Starting cause t) (crs-shown (s .dev .control .visibility) isRead q w))
 
   -- and 17 if not.
   pub status-17 : (isRead : Bool) (q : Request) (value : ℕ) (cause : Cause) (t : Nanos) → Looked (setup .slots) q → s .dev .link ≡ true → slotStatus q .phase ≡ Pending cause t
       → flrInProgress (s .dev .clock) (slotStatus q) ≡ false → (Shows (s .dev .control .visibility) isRead q → ⊥) → statusOf setup defaults s (request isRead q value) ≡ 17
   status-17 isRead q value cause t h e f n w =
-      goes isRead q value (route.Starting cause t (crsOf (s .dev .control .visibility) isRead q)) (goes-starting (setup .slots) (s .dev) (slotStatus q) isRead q cause t h e f n)
+      goes isRead q value (route.Starting cause t (crsOf (s .dev .control .visibility) isRead q)) (goes-starting (setup .slots) (slotKind setup (q .slot)) (s .dev) (slotStatus q) isRead q cause t h e f n)
       ∙ ap completionNumber (crs-retry (s .dev .control .visibility) isRead q w)
 
   -- Else 0: the slot is Ready.
   pub status-0 : (isRead : Bool) (q : Request) (value : ℕ) → Looked (setup .slots) q → s .dev .link ≡ true → slotStatus q .phase ≡ Ready → statusOf setup defaults s (request isRead q value) ≡ 0
-  status-0 isRead q value h e f = goes isRead q value route.Access (goes-access (setup .slots) (s .dev) (slotStatus q) isRead q h e f)
+  status-0 isRead q value h e f = goes isRead q value route.Access (goes-access (setup .slots) (slotKind setup (q .slot)) (s .dev) (slotStatus q) isRead q h e f)
 
   -- ---- kind 0C: hardware sets bits
 
@@ -413,16 +415,16 @@ read-gives route.Access = tt
 not-shown : (visibility : Bool) (q : Request) → crsCompletion (crsOf visibility false q) ≡ completion.CrsRetry
 not-shown visibility q = crs-retry visibility false q (λ w. false≢true (w .read))
 
-write-gives : (slots : ℕ) (dev : Dev) (status : Status) (q : Request) (r : Route) → Because slots dev status false q r
+write-gives : (slots : ℕ) (kind : Kind) (dev : Dev) (status : Status) (q : Request) (r : Route) → Because slots kind dev status false q r
     → T (oneOf (completionNumber (routeCompletion r)) (0 ∷ 17 ∷ 18 ∷ 20 ∷ 21 ∷ 24 ∷ []))
-write-gives slots dev status q route.NoSlot b = tt
-write-gives slots dev status q route.NoWord b = tt
-write-gives slots dev status q route.BadEnables b = tt
-write-gives slots dev status q route.LinkDown b = tt
-write-gives slots dev status q (route.FlrInProgress end) b = tt
-write-gives slots dev status q (route.Starting cause t crs) b =
+write-gives slots kind dev status q route.NoSlot b = tt
+write-gives slots kind dev status q route.NoWord b = tt
+write-gives slots kind dev status q route.BadEnables b = tt
+write-gives slots kind dev status q route.LinkDown b = tt
+write-gives slots kind dev status q (route.FlrInProgress end) b = tt
+write-gives slots kind dev status q (route.Starting cause t crs) b =
     subst (λ (c : Completion). T (oneOf (completionNumber c) (0 ∷ 17 ∷ 18 ∷ 20 ∷ 21 ∷ 24 ∷ []))) (sym (ap crsCompletion (b .4) ∙ not-shown (dev .control .visibility) q)) tt
-write-gives slots dev status q route.Access b = tt
+write-gives slots kind dev status q route.Access b = tt
 
 -- the status of an effect
 abbrev effectNumber : {S : Type 0} → Effect S → ℕ
@@ -471,7 +473,7 @@ module _ (setup : Setup) (defaults : List ℕ) (s : State) where
   unfolding run effect advanceEffect linkUpEffect linkDownEffect coldResetEffect messageEffect hardwareEffect controlEffect
   status-table (kind.Read q) = rw (request-completion setup defaults s true q 0) (read-gives (routed setup s true q))
   status-table (kind.Write q value) =
-      rw (request-completion setup defaults s false q value) (write-gives (setup .slots) (s .dev) (statusAt (s .statuses) (q .slot)) q (routed setup s false q) (goes-because (setup .slots) (s .dev) (statusAt (s .statuses) (q .slot)) false q))
+      rw (request-completion setup defaults s false q value) (write-gives (setup .slots) (slotKind setup (q .slot)) (s .dev) (statusAt (s .statuses) (q .slot)) q (routed setup s false q) (goes-because (setup .slots) (slotKind setup (q .slot)) (s .dev) (statusAt (s .statuses) (q .slot)) false q))
   status-table (kind.Advance by) =
       rw (number-answered setup s (advanceEffect by s)) (either-given (0 ∷ 22 ∷ []) (leb (sumOf (s .dev .clock) by .0) clockEnd) (does (advancedBy by s) noTally 0) (refused completion.ClockEnd 0) tt tt)
   status-table (kind.Message m) =
@@ -488,7 +490,7 @@ module _ (setup : Setup) (defaults : List ℕ) (s : State) where
       rw (number-answered setup s (effect setup defaults s (kind.Control b)), at-port-number s (controlEffect b (frontOf s)))
       (control-gives _ (ltb 15 b || eqb (b / 4 % 4) 3))
   status-table (kind.HardwareSet slot word mask) =
-      rw (number-answered setup s (effect setup defaults s (kind.HardwareSet slot word mask)), at-slot-number s slot (hardwareEffect (setup .slots) (kindOf setup slot) slot word mask (seatOf s slot)))
+      rw (number-answered setup s (effect setup defaults s (kind.HardwareSet slot word mask)), at-slot-number s slot (hardwareEffect (setup .slots) (slotKind setup slot) slot word mask (seatOf s slot)))
       (hardware-gives (does _ _ _) (not (ltb slot (setup .slots))) (ltb 63 word) (not (isReady (statusAt (s .statuses) slot))) refl)
   status-table kind.ReadBits = rw (number-answered setup s (effect setup defaults s kind.ReadBits)) tt
   status-table kind.NoKind = rw (number-answered setup s (effect setup defaults s kind.NoKind)) tt
@@ -574,9 +576,9 @@ module _ (setup : Setup) (defaults : List ℕ) (s : State) where
       ∙ neither (leb (sumOf (s .dev .clock) by .0) clockEnd) (does (advancedBy by s) noTally 0) (refused completion.ClockEnd 0) refl refl
   no-data (kind.Read q) n = absurd (false≢true (sym n))
   no-data (kind.Write q value) n =
-      let x = writeEffect (setup .slots) (kindOf setup (q .slot)) (entryOf setup (q .slot)) defaults q value (seatOf s (q .slot)) in
+      let x = writeEffect (setup .slots) (slotKind setup (q .slot)) (entryOf setup (q .slot)) defaults q value (seatOf s (q .slot)) in
       data-answered setup s (atSlot s (q .slot) x) ∙ at-slot-data s (q .slot) x
-      ∙ neither (isAccess (routed setup s false q)) (writeDone (kindOf setup (q .slot)) (entryOf setup (q .slot)) defaults q value (seatOf s (q .slot))) (refused (routeCompletion (routed setup s false q)) 0) refl refl
+      ∙ neither (isAccess (routed setup s false q)) (writeDone (slotKind setup (q .slot)) (entryOf setup (q .slot)) defaults q value (seatOf s (q .slot))) (refused (routeCompletion (routed setup s false q)) 0) refl refl
   no-data (kind.Message m) n =
       data-answered setup s (effect setup defaults s (kind.Message m)) ∙ at-port-data s (messageEffect (setup .«port_id») m (frontOf s))
       ∙ neither (s .dev .link) (messageDone (setup .«port_id») m (frontOf s)) (refused completion.WrongState 0) (message-data (setup .«port_id») m (frontOf s)) refl
@@ -591,8 +593,8 @@ module _ (setup : Setup) (defaults : List ℕ) (s : State) where
       data-answered setup s (effect setup defaults s (kind.Control b)) ∙ at-port-data s (controlEffect b (frontOf s))
       ∙ neither (ltb 15 b || eqb (b / 4 % 4) 3) (refused completion.BadValue 0) (does (front (withControl (s .dev) (controlOf b)) (s .cells)) noTally 0) refl refl
   no-data (kind.HardwareSet slot word mask) n =
-      let x = hardwareEffect (setup .slots) (kindOf setup slot) slot word mask (seatOf s slot) in
-      let z : Effect Seat = does (written slot word (hardwareSet (kindOf setup slot) word (wordAt (s .live) slot word) mask) (seatOf s slot)) noTally 0 in
+      let x = hardwareEffect (setup .slots) (slotKind setup slot) slot word mask (seatOf s slot) in
+      let z : Effect Seat = does (written slot word (hardwareSet (slotKind setup slot) word (wordAt (s .live) slot word) mask) (seatOf s slot)) noTally 0 in
       let y : Effect Seat = cond (not (isReady (statusAt (s .statuses) slot))) (refused completion.WrongState 0) z in
       data-answered setup s (atSlot s slot x) ∙ at-slot-data s slot x
       ∙ neither (not (ltb slot (setup .slots))) (refused completion.NoSlot 0) (cond (ltb 63 word) (refused completion.NoWord 0) y) refl
@@ -606,7 +608,7 @@ module _ (setup : Setup) (defaults : List ℕ) (s : State) where
   read-done-data q e =
       let r = routed setup s true q in
       ap (λ (b : Bool).
-      answered setup s (atSlot s (q .slot) (cond b (readDone (kindOf setup (q .slot)) q (seatOf s (q .slot))) (refused (routeCompletion r) (refusedData true (q .enables) r)))) .reply .«data») e
+      answered setup s (atSlot s (q .slot) (cond b (readDone (slotKind setup (q .slot)) q (seatOf s (q .slot))) (refused (routeCompletion r) (refusedData true (q .enables) r)))) .reply .«data») e
 
 refused-number : (r : Route) → isAccess r ≡ false → completionNumber (routeCompletion r) ≢ 0
 refused-number route.NoSlot e = λ z. omega arith

@@ -9,12 +9,13 @@ use lib.Dec.{eqb, ltb}
 use lib.ListN.{length}
 use lib.Seq.{set-getD}
 use borrow.Author.Tests.{ltb-true, not-false}
+use Rattle.bits.proofs.Choices.{either-way, when-true}
 use Rattle.times.specs.declared.Nanos.{Nanos}
 use Rattle.messages.specs.declared.Message.{Message}
 use Rattle.messages.specs.declared.Message.the-variants.{Drs, Frs, NotReadiness}
 use Rattle.registers.specs.declared.Kind.{Kind}
-use Rattle.registers.specs.Rows.{startsFlr}
-use Rattle.registers.specs.Words.{writeWord}
+use Rattle.registers.specs.Rows.{flrCapabilityWord, startsFlr}
+use Rattle.registers.specs.Words.{writeWord, startsD3hot}
 use Rattle.frs_queue.specs.Queue.{noTally}
 use Rattle.readiness.specs.declared.Cause.{Cause}
 use Rattle.readiness.specs.declared.Cause.the-variants as cause
@@ -27,7 +28,6 @@ use Rattle.readiness.specs.declared.Dev.{Dev}
 use Rattle.readiness.specs.Status.{ready, readyPhase, isReady, entryOf}
 use Rattle.readiness.specs.Root.{frsArrive, drsArrives, drsSet}
 use Rattle.readiness.specs.Settle.{Scene}
-use Rattle.readiness.proofs.Order.{either-way}
 use Rattle.readiness.proofs.Laws.{settle-rest, settle-one}
 use Rattle.records.specs.declared.Request.{Request}
 use Rattle.records.specs.declared.Record.{Record}
@@ -37,10 +37,10 @@ use Rattle.records.specs.declared.Crs.{Crs}
 use Rattle.records.specs.declared.Route.{Route}
 use Rattle.records.specs.declared.Route.the-variants as route
 use Rattle.records.specs.declared.Part.the-variants.{OneSlot, PortAlone, WholeCard}
-use Rattle.records.specs.State.{State, Seat, seatOf, sceneOf, withLive, kindOf}
+use Rattle.records.specs.State.{State, Seat, seatOf, sceneOf, withLive, slotKind}
 use Rattle.records.specs.Answer.{Effect, refused, does, reply, answered}
 use Rattle.records.specs.Route.{pendingRoute, phaseRoute, routeOf, routeCompletion, refusedData, isAccess}
-use Rattle.records.specs.Requests.{wordAt, readDone, writeDone, startsD3hot, written, writeSeat, afterFlr, afterD3hot, readEffect, writeEffect, hardwareEffect}
+use Rattle.records.specs.Requests.{wordAt, readDone, writeDone, written, writeSeat, afterFlr, afterD3hot, readEffect, writeEffect, hardwareEffect}
 use Rattle.records.specs.PortRecords.{Front, messageDone, messageEffect, clearedDev, controlEffect}
 use Rattle.records.specs.Run.{atSlot, atPort, frontOf, effect, run}
 use Rattle.records.specs.Parts.{partAt, partOf, slotEffect, slotAnswered, slotRun, portEffect, portAnswered, portRun, cardEffect, cardRun, slotPut, portPut}
@@ -60,63 +60,59 @@ card-not-port : {P : Type 0} → WholeCard ≡ PortAlone → P
 card-not-port e = let z : _≡_ {A = ℕ} 0 1 = cc in absurd (omega arith)
 
 -- a request's part: its slot, if the card has it, else the port
-at-slot : (slots slot i : ℕ) → partAt slots slot ≡ OneSlot i → (slot < slots) × (slot ≡ i)
-at-slot slots slot i = by (ltb slot slots) refl
+at-slot : (setup : Setup) (slot i : ℕ) → partAt setup slot ≡ OneSlot i → (slot < setup .slots) × (slot ≡ i)
+at-slot setup slot i = by (ltb slot (setup .slots)) refl
   where
-    by : (b : Bool) → ltb slot slots ≡ b → cond b (OneSlot slot) PortAlone ≡ OneSlot i → (slot < slots) × (slot ≡ i)
-    by true e q = (ltb-true slot slots e, cc)
+    by : (b : Bool) → ltb slot (setup .slots) ≡ b → cond b (OneSlot slot) PortAlone ≡ OneSlot i → (slot < setup .slots) × (slot ≡ i)
+    by true e q = (ltb-true slot (setup .slots) e, cc)
     by false e q = port-not-slot q
 
-at-port : (slots slot : ℕ) → partAt slots slot ≡ PortAlone → ltb slot slots ≡ false
-at-port slots slot = by (ltb slot slots) refl
+at-port : (setup : Setup) (slot : ℕ) → partAt setup slot ≡ PortAlone → ltb slot (setup .slots) ≡ false
+at-port setup slot = by (ltb slot (setup .slots)) refl
   where
-    by : (b : Bool) → ltb slot slots ≡ b → cond b (OneSlot slot) PortAlone ≡ PortAlone → ltb slot slots ≡ false
+    by : (b : Bool) → ltb slot (setup .slots) ≡ b → cond b (OneSlot slot) PortAlone ≡ PortAlone → ltb slot (setup .slots) ≡ false
     by true e q = port-not-slot (sym q)
     by false e q = e
 
-at-no-card : {P : Type 0} (slots slot : ℕ) → partAt slots slot ≡ WholeCard → P
-at-no-card {P} slots slot = by (ltb slot slots)
+at-no-card : {P : Type 0} (setup : Setup) (slot : ℕ) → partAt setup slot ≡ WholeCard → P
+at-no-card {P} setup slot = by (ltb slot (setup .slots))
   where
     by : (b : Bool) → cond b (OneSlot slot) PortAlone ≡ WholeCard → P
     by true q = card-not-slot (sym q)
     by false q = card-not-port (sym q)
 
 -- what holds of a read, a write and a hardware set of slot i, which the card has, holds of every record that touches slot i
-at-one-slot : (P : Record → Type 0) (slots i : ℕ)
-    → ((q : Request) → q .slot < slots → q .slot ≡ i → P (Read q))
-    → ((q : Request) (value : ℕ) → q .slot < slots → q .slot ≡ i → P (Write q value))
-    → ((slot word mask : ℕ) → slot < slots → slot ≡ i → P (HardwareSet slot word mask))
-    → (r : Record) → partOf slots r ≡ OneSlot i → P r
-at-one-slot P slots i f g h (Read q) e = let l = at-slot slots (q .slot) i e in f q (l .0) (l .1)
-at-one-slot P slots i f g h (Write q value) e = let l = at-slot slots (q .slot) i e in g q value (l .0) (l .1)
-at-one-slot P slots i f g h (HardwareSet slot word mask) e = let l = at-slot slots slot i e in h slot word mask (l .0) (l .1)
-at-one-slot P slots i f g h (Advance by) e = card-not-slot e
-at-one-slot P slots i f g h LinkUp e = card-not-slot e
-at-one-slot P slots i f g h LinkDown e = card-not-slot e
-at-one-slot P slots i f g h ColdReset e = card-not-slot e
-at-one-slot P slots i f g h (MessageRecord m) e = port-not-slot e
-at-one-slot P slots i f g h ReadQueue e = port-not-slot e
-at-one-slot P slots i f g h RemoveOldest e = port-not-slot e
-at-one-slot P slots i f g h (ClearBits mask) e = port-not-slot e
-at-one-slot P slots i f g h (Control b) e = port-not-slot e
-at-one-slot P slots i f g h ReadBits e = port-not-slot e
-at-one-slot P slots i f g h NoKind e = port-not-slot e
+at-one-slot : (P : Record → Type 0) (setup : Setup) (i : ℕ)
+    → ((q : Request) → q .slot < setup .slots → q .slot ≡ i → P (Read q))
+    → ((q : Request) (value : ℕ) → q .slot < setup .slots → q .slot ≡ i → P (Write q value))
+    → ((slot word mask : ℕ) → slot < setup .slots → slot ≡ i → P (HardwareSet slot word mask))
+    → (r : Record) → partOf setup r ≡ OneSlot i → P r
+at-one-slot P setup i f g h (Read q) e = let l = at-slot setup (q .slot) i e in f q (l .0) (l .1)
+at-one-slot P setup i f g h (Write q value) e = let l = at-slot setup (q .slot) i e in g q value (l .0) (l .1)
+at-one-slot P setup i f g h (HardwareSet slot word mask) e = let l = at-slot setup slot i e in h slot word mask (l .0) (l .1)
+at-one-slot P setup i f g h (Advance by) e = card-not-slot e
+at-one-slot P setup i f g h LinkUp e = card-not-slot e
+at-one-slot P setup i f g h LinkDown e = card-not-slot e
+at-one-slot P setup i f g h ColdReset e = card-not-slot e
+at-one-slot P setup i f g h (MessageRecord m) e = port-not-slot e
+at-one-slot P setup i f g h ReadQueue e = port-not-slot e
+at-one-slot P setup i f g h RemoveOldest e = port-not-slot e
+at-one-slot P setup i f g h (ClearBits mask) e = port-not-slot e
+at-one-slot P setup i f g h (Control b) e = port-not-slot e
+at-one-slot P setup i f g h ReadBits e = port-not-slot e
+at-one-slot P setup i f g h NoKind e = port-not-slot e
 
 -- A record that touches slot i touches one that the card has.
-pub part-below : (slots i : ℕ) (r : Record) → partOf slots r ≡ OneSlot i → i < slots
-part-below slots i = at-one-slot (λ r. i < slots) slots i (λ q l e. omega arith) (λ q value l e. omega arith) (λ slot word mask l e. omega arith)
+pub part-below : (setup : Setup) (i : ℕ) (r : Record) → partOf setup r ≡ OneSlot i → i < setup .slots
+part-below setup i = at-one-slot (λ r. i < setup .slots) setup i (λ q l e. omega arith) (λ q value l e. omega arith) (λ slot word mask l e. omega arith)
 
 -- ---- a slot that there is not
 
-taken : {A : Type 0} (b : Bool) (x y : A) → b ≡ true → cond b x y ≡ x
-taken true x y e = refl
-taken false x y e = absurd (false≢true e)
-
 -- A read, a write or a hardware set of a slot that there is not is refused with 20.
 module _ (slots : ℕ) (kind : Kind) (z : Seat) where
-  pub no-slot-route : (isRead : Bool) (q : Request) → ltb (q .slot) slots ≡ false → routeOf slots (z .dev) (z .status) isRead q ≡ route.NoSlot
+  pub no-slot-route : (isRead : Bool) (q : Request) → ltb (q .slot) slots ≡ false → routeOf slots kind (z .dev) (z .status) isRead q ≡ route.NoSlot
   unfolding routeOf
-  no-slot-route isRead q e = taken (not (ltb (q .slot) slots)) route.NoSlot _ (ap not e)
+  no-slot-route isRead q e = when-true (not (ltb (q .slot) slots)) route.NoSlot _ (ap not e)
 
   pub no-slot-read : (q : Request) → ltb (q .slot) slots ≡ false → readEffect slots kind q z ≡ refused completion.NoSlot 0
   unfolding readEffect
@@ -132,7 +128,7 @@ module _ (slots : ℕ) (kind : Kind) (z : Seat) where
 
   pub no-slot-set : (slot word mask : ℕ) → ltb slot slots ≡ false → hardwareEffect slots kind slot word mask z ≡ refused completion.NoSlot 0
   unfolding hardwareEffect
-  no-slot-set slot word mask e = taken (not (ltb slot slots)) (refused completion.NoSlot 0) _ (ap not e)
+  no-slot-set slot word mask e = when-true (not (ltb slot slots)) (refused completion.NoSlot 0) _ (ap not e)
 
 -- ---- an access finds its slot Ready
 
@@ -158,9 +154,9 @@ phase-access clock Ready crs e = refl
 phase-access clock (Pending c t) crs e = absurd (false≢true (sym (pending-refused clock c t crs) ∙ e))
 
 -- A request that has access finds its slot Ready.
-pub access-ready : (slots : ℕ) (dev : Dev) (status : Status) (isRead : Bool) (q : Request) → isAccess (routeOf slots dev status isRead q) ≡ true → status ≡ ready
+pub access-ready : (slots : ℕ) (kind : Kind) (dev : Dev) (status : Status) (isRead : Bool) (q : Request) → isAccess (routeOf slots kind dev status isRead q) ≡ true → status ≡ ready
 unfolding routeOf
-access-ready slots dev status isRead q =
+access-ready slots kind dev status isRead q =
     either-way P (not (ltb (q .slot) slots)) route.NoSlot _ (λ t. no)
     (λ t. either-way P (ltb 63 (q .word)) route.NoWord _ (λ t. no)
     (λ t. either-way P (ltb 15 (q .enables)) route.BadEnables _ (λ t. no)
@@ -186,8 +182,8 @@ pub write-cases : (P : Seat → Type 0) (kind : Kind) (entry : Slot) (defaults :
 unfolding writeSeat
 write-cases P kind entry defaults q value z f d w =
     let old = wordAt (z .live) (q .slot) (q .word) in
-    either-way P (startsFlr kind (q .word) value (q .enables) (wordAt defaults (q .slot) 0x1D)) _ _ (λ e. f)
-    (λ e. either-way P (startsD3hot (q .word) old (writeWord kind (q .word) old value (q .enables))) _ _ (λ e. d) (λ e. w))
+    either-way P (startsFlr kind (q .word) value (q .enables) (wordAt defaults (q .slot) (flrCapabilityWord kind))) _ _ (λ e. f)
+    (λ e. either-way P (startsD3hot kind (q .word) old (writeWord kind (q .word) old value (q .enables))) _ _ (λ e. d) (λ e. w))
 
 write-dev : (kind : Kind) (entry : Slot) (defaults : List ℕ) (q : Request) (value : ℕ) (z : Seat) → writeSeat kind entry defaults q value z .dev ≡ z .dev
 unfolding afterFlr afterD3hot
@@ -197,14 +193,14 @@ module _ (slots : ℕ) (kind : Kind) (z : Seat) where
   pub read-does : (q : Request) → SlotDoes z (readEffect slots kind q z)
   unfolding readEffect
   read-does q =
-      either-way (SlotDoes z) (isAccess (routeOf slots (z .dev) (z .status) true q)) _ _
-      (λ e. (access-ready slots (z .dev) (z .status) true q e, refl)) (λ e. tt)
+      either-way (SlotDoes z) (isAccess (routeOf slots kind (z .dev) (z .status) true q)) _ _
+      (λ e. (access-ready slots kind (z .dev) (z .status) true q e, refl)) (λ e. tt)
 
   pub write-does : (entry : Slot) (defaults : List ℕ) (q : Request) (value : ℕ) → SlotDoes z (writeEffect slots kind entry defaults q value z)
   unfolding writeEffect
   write-does entry defaults q value =
-      either-way (SlotDoes z) (isAccess (routeOf slots (z .dev) (z .status) false q)) _ _
-      (λ e. (access-ready slots (z .dev) (z .status) false q e, write-dev kind entry defaults q value z)) (λ e. tt)
+      either-way (SlotDoes z) (isAccess (routeOf slots kind (z .dev) (z .status) false q)) _ _
+      (λ e. (access-ready slots kind (z .dev) (z .status) false q e, write-dev kind entry defaults q value z)) (λ e. tt)
 
   pub set-does : (slot word mask : ℕ) → SlotDoes z (hardwareEffect slots kind slot word mask z)
   unfolding hardwareEffect
@@ -245,9 +241,9 @@ port-does portId NoKind p = (refl, refl)
 
 -- ---- answers part by part, in a state at rest
 
-module _ (setup : Setup) (s : State) (rests : Resting (s .dev .clock) (s .dev .owed) (s .statuses)) where
+module _ (setup : Setup) (s : State) (rests : Resting setup (s .dev .clock) (s .dev .owed) (s .statuses)) where
   -- where clock and "owed" are the state's
-  rests-so : (d : Dev) → d .clock ≡ s .dev .clock → d .owed ≡ s .dev .owed → Resting (d .clock) (d .owed) (s .statuses)
+  rests-so : (d : Dev) → d .clock ≡ s .dev .clock → d .owed ≡ s .dev .owed → Resting setup (d .clock) (d .owed) (s .statuses)
   rests-so d c o = rw (c, o) rests
 
   port-answers : (e : Effect Front) → PortDoes (frontOf s) e → answered setup s (atPort s e) ≡ portPut s (portAnswered (frontOf s) e)
@@ -267,34 +263,34 @@ module _ (setup : Setup) (s : State) (rests : Resting (s .dev .clock) (s .dev .o
   slot-answers i l (does y tally v) h =
       let r = rests-so (y .dev) (ap (λ (d : Dev). d .clock) (h .1)) (ap (λ (d : Dev). d .owed) (h .1)) in
       ap (λ (x : Scene). record { after = withLive x (y .live); reply = reply completion.Done (x .root .tally) v })
-      (settle-one setup (s .statuses) i (y .status) (record { dev = y .dev; cells = y .cells; tally = tally }) l (h .0) (r .due) (r .drs))
+      (settle-one setup (s .statuses) i (y .status) (record { dev = y .dev; cells = y .cells; tally = tally }) l (ap isReady (h .0)) (r .due) (r .drs))
 
 -- ---- the three parts
 
 module _ (setup : Setup) (defaults : List ℕ) (s : State) (good : Sound setup s) (fits : Fitting setup defaults s) where
   -- a record at slot i, which the card has
-  slot-part : (i : ℕ) → i < setup .slots → (r : Record) → SlotDoes (seatOf s i) (slotEffect (setup .slots) (kindOf setup i) (entryOf setup i) defaults r (seatOf s i))
-      → effect setup defaults s r ≡ atSlot s i (slotEffect (setup .slots) (kindOf setup i) (entryOf setup i) defaults r (seatOf s i))
-      → run setup defaults s r ≡ slotPut s i (slotRun (setup .slots) (kindOf setup i) (setup .bus) (entryOf setup i) defaults i r (seatOf s i))
+  slot-part : (i : ℕ) → i < setup .slots → (r : Record) → SlotDoes (seatOf s i) (slotEffect (setup .slots) (slotKind setup i) (entryOf setup i) defaults r (seatOf s i))
+      → effect setup defaults s r ≡ atSlot s i (slotEffect (setup .slots) (slotKind setup i) (entryOf setup i) defaults r (seatOf s i))
+      → run setup defaults s r ≡ slotPut s i (slotRun (setup .slots) (slotKind setup i) (setup .bus) (entryOf setup i) defaults i r (seatOf s i))
   unfolding run slotRun
   slot-part i h r d e =
       ap (answered setup s) e
       ∙ slot-answers setup s (sound-rests setup defaults s good fits) i (let l = fits .slots in omega arith) _ d
 
   -- A RECORD THAT TOUCHES ONE SLOT, which the card has, is run by that slot's status, the port and the lent words alone.
-  pub run-slot : (r : Record) (i : ℕ) → partOf (setup .slots) r ≡ OneSlot i
-      → run setup defaults s r ≡ slotPut s i (slotRun (setup .slots) (kindOf setup i) (setup .bus) (entryOf setup i) defaults i r (seatOf s i))
+  pub run-slot : (r : Record) (i : ℕ) → partOf setup r ≡ OneSlot i
+      → run setup defaults s r ≡ slotPut s i (slotRun (setup .slots) (slotKind setup i) (setup .bus) (entryOf setup i) defaults i r (seatOf s i))
   unfolding effect slotEffect
   run-slot r i =
-      at-one-slot (λ r. run setup defaults s r ≡ slotPut s i (slotRun (setup .slots) (kindOf setup i) (setup .bus) (entryOf setup i) defaults i r (seatOf s i)))
-      (setup .slots) i
-      (λ q l e. rw (sym e) (slot-part (q .slot) l (Read q) (read-does (setup .slots) (kindOf setup (q .slot)) (seatOf s (q .slot)) q) refl))
+      at-one-slot (λ r. run setup defaults s r ≡ slotPut s i (slotRun (setup .slots) (slotKind setup i) (setup .bus) (entryOf setup i) defaults i r (seatOf s i)))
+      setup i
+      (λ q l e. rw (sym e) (slot-part (q .slot) l (Read q) (read-does (setup .slots) (slotKind setup (q .slot)) (seatOf s (q .slot)) q) refl))
       (λ q value l e.
       rw (sym e)
       (slot-part (q .slot) l (Write q value)
-      (write-does (setup .slots) (kindOf setup (q .slot)) (seatOf s (q .slot)) (entryOf setup (q .slot)) defaults q value) refl))
+      (write-does (setup .slots) (slotKind setup (q .slot)) (seatOf s (q .slot)) (entryOf setup (q .slot)) defaults q value) refl))
       (λ slot word mask l e.
-      rw (sym e) (slot-part slot l (HardwareSet slot word mask) (set-does (setup .slots) (kindOf setup slot) (seatOf s slot) slot word mask) refl))
+      rw (sym e) (slot-part slot l (HardwareSet slot word mask) (set-does (setup .slots) (slotKind setup slot) (seatOf s slot) slot word mask) refl))
       r
 
   port-part : (r : Record) → effect setup defaults s r ≡ atPort s (portEffect (setup .«port_id») r (frontOf s))
@@ -303,7 +299,7 @@ module _ (setup : Setup) (defaults : List ℕ) (s : State) (good : Sound setup s
   port-part r e = ap (answered setup s) e ∙ port-answers setup s (sound-rests setup defaults s good fits) _ (port-does (setup .«port_id») r (frontOf s))
 
   -- A RECORD THAT TOUCHES NO SLOT is run by the port alone.
-  pub run-port : (r : Record) → partOf (setup .slots) r ≡ PortAlone → run setup defaults s r ≡ portPut s (portRun (setup .«port_id») r (frontOf s))
+  pub run-port : (r : Record) → partOf setup r ≡ PortAlone → run setup defaults s r ≡ portPut s (portRun (setup .«port_id») r (frontOf s))
   unfolding effect portEffect
   run-port (MessageRecord m) e = port-part (MessageRecord m) refl
   run-port ReadQueue e = port-part ReadQueue refl
@@ -313,27 +309,27 @@ module _ (setup : Setup) (defaults : List ℕ) (s : State) (good : Sound setup s
   run-port ReadBits e = port-part ReadBits refl
   run-port NoKind e = port-part NoKind refl
   run-port (Read q) e =
-      port-part (Read q) (ap (atSlot s (q .slot)) (no-slot-read (setup .slots) (kindOf setup (q .slot)) (seatOf s (q .slot)) q (at-port (setup .slots) (q .slot) e)))
+      port-part (Read q) (ap (atSlot s (q .slot)) (no-slot-read (setup .slots) (slotKind setup (q .slot)) (seatOf s (q .slot)) q (at-port setup (q .slot) e)))
   run-port (Write q value) e =
       port-part (Write q value)
-      (ap (atSlot s (q .slot)) (no-slot-write (setup .slots) (kindOf setup (q .slot)) (seatOf s (q .slot)) (entryOf setup (q .slot)) defaults q value (at-port (setup .slots) (q .slot) e)))
+      (ap (atSlot s (q .slot)) (no-slot-write (setup .slots) (slotKind setup (q .slot)) (seatOf s (q .slot)) (entryOf setup (q .slot)) defaults q value (at-port setup (q .slot) e)))
   run-port (HardwareSet slot word mask) e =
-      port-part (HardwareSet slot word mask) (ap (atSlot s slot) (no-slot-set (setup .slots) (kindOf setup slot) (seatOf s slot) slot word mask (at-port (setup .slots) slot e)))
+      port-part (HardwareSet slot word mask) (ap (atSlot s slot) (no-slot-set (setup .slots) (slotKind setup slot) (seatOf s slot) slot word mask (at-port setup slot e)))
   run-port (Advance by) e = card-not-port e
   run-port LinkUp e = card-not-port e
   run-port LinkDown e = card-not-port e
   run-port ColdReset e = card-not-port e
 
 -- A RECORD THAT TOUCHES EVERY SLOT is run on the whole card, in any state.
-pub run-card : (setup : Setup) (defaults : List ℕ) (s : State) (r : Record) → partOf (setup .slots) r ≡ WholeCard → run setup defaults s r ≡ cardRun setup defaults r s
+pub run-card : (setup : Setup) (defaults : List ℕ) (s : State) (r : Record) → partOf setup r ≡ WholeCard → run setup defaults s r ≡ cardRun setup defaults r s
 unfolding run cardRun effect cardEffect
 run-card setup defaults s (Advance by) e = refl
 run-card setup defaults s LinkUp e = refl
 run-card setup defaults s LinkDown e = refl
 run-card setup defaults s ColdReset e = refl
-run-card setup defaults s (Read q) e = at-no-card (setup .slots) (q .slot) e
-run-card setup defaults s (Write q value) e = at-no-card (setup .slots) (q .slot) e
-run-card setup defaults s (HardwareSet slot word mask) e = at-no-card (setup .slots) slot e
+run-card setup defaults s (Read q) e = at-no-card setup (q .slot) e
+run-card setup defaults s (Write q value) e = at-no-card setup (q .slot) e
+run-card setup defaults s (HardwareSet slot word mask) e = at-no-card setup slot e
 run-card setup defaults s (MessageRecord m) e = card-not-port (sym e)
 run-card setup defaults s ReadQueue e = card-not-port (sym e)
 run-card setup defaults s RemoveOldest e = card-not-port (sym e)

@@ -2,87 +2,98 @@
 -- Assumes nothing.
 use Prim.Native.Nat.{ℕ, zero, suc, _+_, _≤_, _<_}
 use native.Mathlib.Omega.{arith}
-use mathlib.Core.Path.{_≡_, refl, sym, subst, _∙_}
-use mathlib.Core.Bool.{Bool, true, false, not, _&&_}
+use mathlib.Core.Path.{_≡_, refl, ap, sym, subst, _∙_}
+use mathlib.Core.Bool.{Bool, true, not, _&&_}
 use mathlib.Core.List.{List, [], _∷_, _++_, List·Memᴰ, List·Memᴰ·head, List·Memᴰ·tail}
 use lib.Dec.{eqb, ltb}
-use lib.ListN.{length, getD, List·getD-eq-default}
+use lib.ListN.{length, getD, length-drop}
 use lib.Seq.{getD-drop}
-use borrow.Author.Tests.{ltb-true, ltb-false}
+use borrow.Author.Tests.{lt-ltb}
+use Rattle.bits.proofs.Choices.{either-way}
 use Rattle.bits.proofs.Lists.{getD-listed}
+use Rattle.bits.proofs.Tests.{both}
+use Rattle.messages.specs.Messages.{frsAllowed}
+use Rattle.messages.proofs.Laid.{allowed-small}
+use Rattle.messages.proofs.Laws.{any-reason}
 use Rattle.frs_queue.specs.declared.Frs.{Frs}
 use Rattle.frs_queue.specs.declared.Queue.{Queue}
 use Rattle.frs_queue.specs.Queue.{Ring, placeOf, cellOf, arrives, arriveAll, isEmpty, movedOn, removed, messagesOf}
 use Rattle.frs_queue.proofs.Places.{place-lt}
-use Rattle.frs_queue.proofs.Laws.{heldBy, messages-length, arrives-appends, arrives-length, arrives-start, arrives-depth, removed-takes-head}
+use Rattle.frs_queue.proofs.Laws.{heldBy, messages-length, arrives-appends, arrives-length, arrives-start, arrives-depth, removed-takes-head, reason-in-cell}
 use Rattle.readiness.specs.declared.Cause.{Cause}
 use Rattle.readiness.specs.declared.Cause.the-variants.{LinkUp, Flr, D3hot}
 use Rattle.readiness.specs.declared.Setup.{Setup}
+use Rattle.readiness.specs.declared.Dev.{Dev}
 use Rattle.readiness.specs.Status.{entryOf}
 use Rattle.readiness.specs.Root.{Root, ringOf, frsArrive, frsOfDrs, drsSet, drsArrives}
 use Rattle.readiness.specs.Events.{Event, due, functionId, frsReason, frsWith, frsOfSlot, frsOf}
-use Rattle.readiness.specs.Settle.{Scene, happens, happenAll, drsDue, tells, settles}
-use Rattle.readiness.proofs.Order.{either-way}
+use Rattle.readiness.specs.Settle.{Scene, happens, happenAll, lastOfMoment, momentEnds, drsDue, tells, settles, frsTold, frsEnding, framesOf, frsSent}
+use Rattle.records.specs.Sound.{soundCell}
 
--- every value is below 2^20
-abbrev pub Small : List ℕ → Type 0
-Small l = (k : ℕ) → getD l k 0 < 1048576
+-- each value is that of a sound cell
+abbrev pub AllSound : List ℕ → Type 0
+AllSound l = (k : ℕ) → k < length l → soundCell (getD l k 0) ≡ true
 
--- start below the length, depth within it, every message's cell below 2^20
+-- start below the length, depth within it, every message's cell sound
 pub record SoundRing (cells : List ℕ) (q : Queue) : Type 0 where
   pub start : q .start < length cells
   pub depth : q .depth ≤ length cells
-  pub small : Small (messagesOf cells q)
+  pub values : AllSound (messagesOf cells q)
 
 -- ---- the live cells are the messages
 
-pub cells-small : (cells : List ℕ) (q : Queue) → ((k : ℕ) → k < q .depth → getD cells (placeOf (length cells) (q .start) k) 0 < 1048576) → Small (messagesOf cells q)
-unfolding messagesOf
-cells-small cells q h k = by (ltb k (q .depth)) refl
-  where
-    at : ℕ → ℕ
-    at j = getD cells (placeOf (length cells) (q .start) j) 0
+module _ (cells : List ℕ) (q : Queue) where
+  at : ℕ → ℕ
+  at k = getD cells (placeOf (length cells) (q .start) k) 0
 
-    by : (b : Bool) → ltb k (q .depth) ≡ b → getD (messagesOf cells q) k 0 < 1048576
-    by true e =
-        let l : k < q .depth = ltb-true k (q .depth) e in
-        let v = h k l in
-        omega (arith, getD-listed (q .depth) at k l)
-    by false e =
-        let past : length (messagesOf cells q) ≤ k = omega (arith, messages-length cells q, ltb-false k (q .depth) e) in
-        omega (arith, List·getD-eq-default (messagesOf cells q) 0 past)
+  pub cells-sound : ((k : ℕ) → k < q .depth → soundCell (getD cells (placeOf (length cells) (q .start) k) 0) ≡ true) → AllSound (messagesOf cells q)
+  unfolding messagesOf at
+  cells-sound h k l =
+      let m : k < q .depth = omega (arith, messages-length cells q) in
+      ap soundCell (getD-listed (q .depth) at k m) ∙ h k m
 
-pub small-cells : (cells : List ℕ) (q : Queue) → Small (messagesOf cells q) → (k : ℕ) → k < q .depth → getD cells (placeOf (length cells) (q .start) k) 0 < 1048576
-unfolding messagesOf
-small-cells cells q h k l =
-    let at : ℕ → ℕ = λ j. getD cells (placeOf (length cells) (q .start) j) 0 in
-    let v = h k in
-    omega (arith, getD-listed (q .depth) at k l)
+  pub sound-cells : AllSound (messagesOf cells q) → (k : ℕ) → k < q .depth → soundCell (getD cells (placeOf (length cells) (q .start) k) 0) ≡ true
+  unfolding messagesOf at
+  sound-cells h k l = sym (ap soundCell (getD-listed (q .depth) at k l)) ∙ h k (omega (arith, messages-length cells q))
 
 -- ---- messages that arrive
 
--- each message's cell is below 2^20
-abbrev pub SmallFrs : List Frs → Type 0
-SmallFrs [] = Unit {0}
-SmallFrs (f ∷ fs) = (cellOf f < 1048576) × SmallFrs fs
+-- an ID of 16 bits, and a reason that an FRS may have
+abbrev pub SoundFrs : Frs → Type 0
+SoundFrs f = (f .id < 65536) × (frsAllowed (f .reason) ≡ true)
 
-small-append : (l : List ℕ) (v : ℕ) → Small l → v < 1048576 → Small (l ++ (v ∷ []))
-small-append [] v h p zero = p
-small-append [] v h p (suc k) = h 0
-small-append (x ∷ l) v h p zero = h 0
-small-append (x ∷ l) v h p (suc k) = small-append l v (λ j. h (suc j)) p k
+abbrev pub AllSoundFrs : List Frs → Type 0
+AllSoundFrs [] = Unit {0}
+AllSoundFrs (f ∷ fs) = SoundFrs f × AllSoundFrs fs
 
-ring-arrives : (enabled : Bool) (f : Frs) (r : Ring) → cellOf f < 1048576 → SoundRing (r .cells) (r .queue)
+pub both-sound : (a b : List Frs) → AllSoundFrs a → AllSoundFrs b → AllSoundFrs (a ++ b)
+both-sound [] b h k = k
+both-sound (f ∷ fs) b h k = (h .0, both-sound fs b (h .1) k)
+
+-- its cell is sound
+pub frs-cell : (f : Frs) → SoundFrs f → soundCell (cellOf f) ≡ true
+frs-cell f h =
+    let i = h .0 in
+    let r = allowed-small (f .reason) (h .1) in
+    both _ _ (lt-ltb (cellOf f) 1048576 (omega arith)) (ap frsAllowed (reason-in-cell f i) ∙ h .1)
+
+all-append : (l : List ℕ) (v : ℕ) → AllSound l → soundCell v ≡ true → AllSound (l ++ (v ∷ []))
+all-append [] v h p zero l = p
+all-append [] v h p (suc k) l = absurd (omega arith)
+all-append (x ∷ xs) v h p zero l = h 0 (omega arith)
+all-append (x ∷ xs) v h p (suc k) l = all-append xs v (λ j m. h (suc j) (omega arith)) p k (omega arith)
+
+ring-arrives : (enabled : Bool) (f : Frs) (r : Ring) → SoundFrs f → SoundRing (r .cells) (r .queue)
     → SoundRing (arrives enabled f r .cells) (arrives enabled f r .queue)
 ring-arrives enabled f r v h =
     record {
       start = let s = h .start in omega (arith, arrives-length enabled f r, arrives-start enabled f r);
       depth = arrives-depth enabled f r (h .depth);
-      small = subst Small (sym (arrives-appends enabled f r))
-          (either-way Small (ltb (r .queue .depth) (length (r .cells))) (heldBy r ++ (cellOf f ∷ [])) (heldBy r) (λ e. small-append (heldBy r) (cellOf f) (h .small) v) (λ e. h .small));
+      values = subst AllSound (sym (arrives-appends enabled f r))
+          (either-way AllSound (ltb (r .queue .depth) (length (r .cells))) (heldBy r ++ (cellOf f ∷ [])) (heldBy r) (λ e. all-append (heldBy r) (cellOf f) (h .values) (frs-cell f v)) (λ e. h .values));
     }
 
-ring-arriveAll : (enabled : Bool) (fs : List Frs) (r : Ring) → SmallFrs fs → SoundRing (r .cells) (r .queue)
+ring-arriveAll : (enabled : Bool) (fs : List Frs) (r : Ring) → AllSoundFrs fs → SoundRing (r .cells) (r .queue)
     → SoundRing (arriveAll enabled fs r .cells) (arriveAll enabled fs r .queue)
 unfolding arriveAll
 ring-arriveAll enabled [] r v h = h
@@ -93,17 +104,21 @@ abbrev pub SoundRoot : Root → Type 0
 SoundRoot x = SoundRing (x .cells) (x .dev .queue)
 
 -- FRS messages keep it so
-pub frs-keeps : (fs : List Frs) (x : Root) → SmallFrs fs → SoundRoot x → SoundRoot (frsArrive fs x)
+pub frs-keeps : (fs : List Frs) (x : Root) → AllSoundFrs fs → SoundRoot x → SoundRoot (frsArrive fs x)
 unfolding frsArrive
 frs-keeps fs x v h = ring-arriveAll (x .dev .control .«frs_interrupt») fs (ringOf x) v h
 
+-- the port's own message has an allowed reason
+pub drs-sound : (portId : ℕ) (d : Dev) → portId < 65536 → AllSoundFrs (frsOfDrs portId d)
+unfolding frsOfDrs
+drs-sound portId d p =
+    either-way AllSoundFrs (not (d .«drs_received») && eqb (d .control .signalling) 2) (record { id = portId; reason = 1 } ∷ []) []
+    (λ e. ((p, any-reason 1 (omega arith)), tt)) (λ e. tt)
+
 -- a DRS too
 pub drs-keeps : (portId : ℕ) (x : Root) → portId < 65536 → SoundRoot x → SoundRoot (drsArrives portId x)
-unfolding drsArrives frsOfDrs drsSet
-drs-keeps portId x p h =
-    frs-keeps (frsOfDrs portId (x .dev)) (drsSet x)
-    (either-way SmallFrs (not (x .dev .«drs_received») && eqb (x .dev .control .signalling) 2) (record { id = portId; reason = 1 } ∷ []) [] (λ e. (omega arith, tt)) (λ e. tt))
-    h
+unfolding drsArrives drsSet
+drs-keeps portId x p h = frs-keeps (frsOfDrs portId (x .dev)) (drsSet x) (drs-sound portId (x .dev) p) h
 
 -- and the number of cells
 arriveAll-cells : (enabled : Bool) (fs : List Frs) (r : Ring) → length (arriveAll enabled fs r .cells) ≡ length (r .cells)
@@ -129,8 +144,8 @@ removed-keeps cells q h =
           (λ e. h .start) (λ e. place-lt (length cells) (q .start) 1 (let s = h .start in omega arith));
       depth = either-way (λ (p : Queue). p .depth ≤ length cells) (isEmpty (length cells) q) q (movedOn (length cells) q)
           (λ e. h .depth) (λ e. let d = h .depth in omega arith);
-      small = subst Small (sym (removed-takes-head cells q (h .depth)))
-          (λ k. let v = h .small (1 + k) in omega (arith, getD-drop 1 (messagesOf cells q) k 0));
+      values = subst AllSound (sym (removed-takes-head cells q (h .depth)))
+          (λ k l. ap soundCell (getD-drop 1 (messagesOf cells q) k 0) ∙ h .values (1 + k) (omega (arith, length-drop 1 (messagesOf cells q))));
     }
 
 -- an empty queue at cell 0
@@ -139,36 +154,58 @@ empty-sound cells q some s d =
     record {
       start = omega arith;
       depth = omega arith;
-      small = cells-small cells q (λ k l. absurd (omega arith));
+      values = cells-sound cells q (λ k l. absurd (omega arith));
     }
 
 -- ---- settling
 
--- a slot's message: bus, slot and reason have room
-slot-small : (setup : Setup) (e : Event) → setup .bus < 256 → e .slot < 256 → SmallFrs (frsOf setup e)
+-- AN FRS THAT A SLOT SENDS has an ID of 16 bits and an allowed reason
+pub slot-sound : (setup : Setup) (e : Event) → setup .bus < 256 → e .slot < 256 → AllSoundFrs (frsOf setup e)
 unfolding frsOf frsOfSlot
-slot-small setup e b h =
-    either-way SmallFrs (entryOf setup (e .slot) .«sends_frs») (frsWith (functionId (setup .bus) (e .slot)) (frsReason (e .cause))) []
+slot-sound setup e b h =
+    either-way AllSoundFrs (entryOf setup (e .slot) .«sends_frs») (frsWith (functionId (setup .bus) (e .slot)) (frsReason (e .cause))) []
     (λ t. by (e .cause)) (λ t. tt)
   where
-    by : (c : Cause) → SmallFrs (frsWith (functionId (setup .bus) (e .slot)) (frsReason c))
+    by : (c : Cause) → AllSoundFrs (frsWith (functionId (setup .bus) (e .slot)) (frsReason c))
     by LinkUp = tt
-    by (Flr end) = (omega arith, tt)
-    by D3hot = (omega arith, tt)
+    by (Flr end) = ((omega arith, any-reason 3 (omega arith)), tt)
+    by D3hot = ((omega arith, any-reason 2 (omega arith)), tt)
 
 module _ (setup : Setup) (bus : setup .bus < 256) (port : setup .«port_id» < 65536) where
+  tells-keeps : (x : Scene) → SoundRoot (x .root) → SoundRoot (tells setup x .root)
+  unfolding tells
+  tells-keeps x h = either-way (λ (y : Scene). SoundRoot (y .root)) (drsDue setup x) _ x (λ e. drs-keeps (setup .«port_id») (x .root) port h) (λ e. h)
+
+  ends-keep : (e : Event) (es : List Event) (x : Scene) → SoundRoot (x .root) → SoundRoot (momentEnds setup e es x .root)
+  unfolding momentEnds
+  ends-keep e es x h = either-way (λ (y : Scene). SoundRoot (y .root)) (lastOfMoment e es) _ x (λ b. tells-keeps x h) (λ b. h)
+
   happenAll-keeps : (es : List Event) (x : Scene) → ((e : Event) → List·Memᴰ e es → e .slot < 256) → SoundRoot (x .root) → SoundRoot (happenAll setup es x .root)
   unfolding happenAll happens
   happenAll-keeps [] x l h = h
-  happenAll-keeps (e ∷ es) x l h = happenAll-keeps es (happens setup e x) (λ v m. l v (List·Memᴰ·tail m)) (frs-keeps (frsOf setup e) (x .root) (slot-small setup e bus (l e (List·Memᴰ·head refl))) h)
-
-  tells-keeps : (x : Scene) → SoundRoot (x .root) → SoundRoot (tells setup x .root)
-  unfolding tells
-  tells-keeps x h = either-way (λ (y : Scene). SoundRoot (y .root)) (drsDue x) _ x (λ e. drs-keeps (setup .«port_id») (x .root) port h) (λ e. h)
+  happenAll-keeps (e ∷ es) x l h =
+      happenAll-keeps es _ (λ v m. l v (List·Memᴰ·tail m))
+      (ends-keep e es (happens setup e x) (frs-keeps (frsOf setup e) (x .root) (slot-sound setup e bus (l e (List·Memᴰ·head refl))) h))
 
   -- settling keeps the queue sound
   pub settle-ring : (x : Scene) → ((e : Event) → List·Memᴰ e (due (x .root .dev .clock) (x .statuses)) → e .slot < 256) → SoundRoot (x .root) → SoundRoot (settles setup x .root)
   unfolding settles
-  settle-ring x l h =
-      let es = due (x .root .dev .clock) (x .statuses) in
-      tells-keeps (happenAll setup es x) (happenAll-keeps es x l h)
+  settle-ring x l h = happenAll-keeps (due (x .root .dev .clock) (x .statuses)) (tells setup x) l (tells-keeps x h)
+
+  -- and each FRS that it sends has an allowed reason
+  told-sound : (x : Scene) → AllSoundFrs (frsTold setup x)
+  unfolding frsTold
+  told-sound x = either-way AllSoundFrs (drsDue setup x) _ [] (λ e. drs-sound (setup .«port_id») (x .root .dev) port) (λ e. tt)
+
+  frames-sound : (es : List Event) (x : Scene) → ((e : Event) → List·Memᴰ e es → e .slot < 256) → AllSoundFrs (framesOf setup es x)
+  unfolding framesOf frsEnding
+  frames-sound [] x l = tt
+  frames-sound (e ∷ es) x l =
+      both-sound (frsOf setup e ++ frsEnding setup e es (happens setup e x)) _
+      (both-sound (frsOf setup e) _ (slot-sound setup e bus (l e (List·Memᴰ·head refl)))
+      (either-way AllSoundFrs (lastOfMoment e es) _ [] (λ b. told-sound (happens setup e x)) (λ b. tt)))
+      (frames-sound es _ (λ v m. l v (List·Memᴰ·tail m)))
+
+  pub sent-sound : (x : Scene) → ((e : Event) → List·Memᴰ e (due (x .root .dev .clock) (x .statuses)) → e .slot < 256) → AllSoundFrs (frsSent setup x)
+  unfolding frsSent
+  sent-sound x l = both-sound (frsTold setup x) _ (told-sound x) (frames-sound (due (x .root .dev .clock) (x .statuses)) (tells setup x) l)

@@ -3,15 +3,17 @@
 -- Assumes nothing.
 use Prim.Native.Nat.{ℕ, zero, suc, _+_, _-_, _*_, _≤_, min}
 use native.Mathlib.Omega.{arith}
-use mathlib.Core.Bool.{Bool, true, false, not, _&&_, _||_, cond, or-false, or-true, and-false, false≢true}
+use mathlib.Core.Bool.{Bool, true, false, not, _&&_, _||_, cond, or-false, or-true, and-false, false≢true, true≢false, not-and-self}
 use mathlib.Core.List.{List, [], _∷_, _++_, map, append-nil}
-use mathlib.Core.Path.{_≡_, refl, sym, ap, _∙_}
+use mathlib.Core.Path.{_≡_, refl, sym, ap, ap₂, _∙_}
 use lib.Dec.{ltb, eqb}
-use lib.ListN.{length, getD, take, drop, length-append, length-map, length-set}
+use lib.ListN.{length, getD, take, drop, length-append, length-map, length-set, set}
 use lib.Seq.{take-nil}
 use borrow.Author.Tests.{ltb-true, ltb-false, lt-leb}
+use Rattle.bits.proofs.Lists.{take-min}
+use Rattle.bits.proofs.Choices.{either-way, through}
 use Rattle.bits.specs.Bits.{bit}
-use Rattle.bits.proofs.Tests.{truth}
+use Rattle.bits.proofs.Tests.{truth, both, both-left, both-right}
 use Rattle.times.specs.declared.Nanos.{Nanos}
 use Rattle.messages.specs.declared.Message.{Message}
 use Rattle.messages.specs.declared.Message.the-variants.{Drs, Frs, NotReadiness}
@@ -28,17 +30,18 @@ use Rattle.readiness.specs.declared.Dev.{Dev}
 use Rattle.readiness.specs.declared.Control as PortControl
 use Rattle.readiness.specs.Status.{ready, down, allReady, entryOf, eachFrom, stoppedByReset, afterReset, afterLinkDown, afterColdReset}
 use Rattle.readiness.specs.Root.{ringOf, frsArrive, frsOfDrs, drsInterrupt, drsSet, drsArrives}
-use Rattle.readiness.specs.Events.{Event, due, dueEvent, dueFrom, insertAll}
-use Rattle.readiness.specs.Settle.{Scene, drsDue, tells, settles, framesOf, frsSent}
-use Rattle.readiness.proofs.Order.{either-way, through, setReady}
-use Rattle.readiness.proofs.Scenes.{happenAll-is, happened, told}
-use Rattle.readiness.proofs.Laws.{withDrs, drsRaised, settle-messages, settle-rest, frsSent-most}
+use Rattle.readiness.specs.Events.{Event, due, dueEvent, dueFrom, insertAll, frsOf}
+use Rattle.readiness.specs.Settle.{Scene, happens, happenAll, lastOfMoment, momentEnds, drsDue, tells, settles, frsTold, frsEnding, framesOf, frsSent}
+use Rattle.readiness.proofs.Order.{setReady, readyBy, due-ready}
+use Rattle.readiness.proofs.Scenes.{told}
+use Rattle.readiness.proofs.Laws.{withDrs, drsRaised, settle-messages, settle-rest, all-made-ready, frsSent-most}
 use Rattle.records.specs.declared.Record.{Record}
 use Rattle.records.specs.declared.Record.the-variants.{Advance, Read, Write, Message as MessageRecord, LinkUp, LinkDown, ColdReset, ReadQueue, RemoveOldest, ClearBits, Control, HardwareSet, ReadBits, NoKind}
 use Rattle.records.specs.declared.Reply.{Reply}
-use Rattle.records.specs.State.{State, state, seatOf, statusAt, rootOf, sceneOf, kindOf}
+use Rattle.records.specs.State.{State, state, seatOf, statusAt, rootOf, sceneOf, slotKind}
 use Rattle.records.specs.Answer.{Effect, refused, does, Ran, answered, one, interrupts, answerBytes}
-use Rattle.records.specs.PortRecords.{withQueue, clearedDev, withControl, controlOf}
+use Rattle.readiness.specs.Fields.{withQueue, withControl}
+use Rattle.records.specs.PortRecords.{clearedDev, controlOf}
 use Rattle.records.specs.Arrivals.{ofRecord, arrivalsIn, arrivals}
 use Rattle.records.specs.Run.{effect, run}
 use Rattle.records.specs.Sound.{soundPhase, Sound, Fitting}
@@ -176,8 +179,8 @@ opens setup defaults s =
       read = λ q e. quiet setup s (Read q) s refl refl refl refl refl refl refl (λ h. refl);
       write =
           λ q value e.
-          let same = write-dev (kindOf setup (q .slot)) (entryOf setup (q .slot)) defaults q value (seatOf s (q .slot)) in
-          quiet setup s (Write q value) _ (write-cells (kindOf setup (q .slot)) (entryOf setup (q .slot)) defaults q value (seatOf s (q .slot))) (ap (λ (d : Dev). d .queue) same)
+          let same = write-dev (slotKind setup (q .slot)) (entryOf setup (q .slot)) defaults q value (seatOf s (q .slot)) in
+          quiet setup s (Write q value) _ (write-cells (slotKind setup (q .slot)) (entryOf setup (q .slot)) defaults q value (seatOf s (q .slot))) (ap (λ (d : Dev). d .queue) same)
           (ap (λ (d : Dev). d .control) same) (ap (λ (d : Dev). d .«drs_received») same) refl refl (length-set (s .statuses) (q .slot) _) (λ h. refl);
       drs =
           λ id e.
@@ -203,37 +206,108 @@ opens setup defaults s =
 
 -- ---- what slots that become Ready send doesn't depend on what was brought before
 
-sent-is : (setup : Setup) (x : Scene)
-    → (let es = due (x .root .dev .clock) (x .statuses) in
-    frsSent setup x ≡ framesOf setup es ++ cond (x .root .dev .owed && allReady (setReady es (x .statuses))) (frsOfDrs (setup .«port_id») (x .root .dev)) [])
-unfolding frsSent frsArrive
-sent-is setup x =
-    let es = due (x .root .dev .clock) (x .statuses) in
-    ap (λ (z : Scene). framesOf setup es ++ cond (drsDue z) (frsOfDrs (setup .«port_id») (x .root .dev)) []) (happenAll-is setup es x)
+-- two scenes with the same statuses, the same owed DRS, DRS Received and control
+record Alike (x y : Scene) : Type 0 where
+  statuses : x .statuses ≡ y .statuses
+  owed : x .root .dev .owed ≡ y .root .dev .owed
+  drs : x .root .dev .«drs_received» ≡ y .root .dev .«drs_received»
+  control : x .root .dev .control ≡ y .root .dev .control
+
+module _ (setup : Setup) where
+  alike-happens : (e : Event) (x y : Scene) → Alike x y → Alike (happens setup e x) (happens setup e y)
+  unfolding happens frsArrive
+  alike-happens e x y a = record { statuses = ap (λ (l : List Status). set l (e .slot) ready) (a .statuses); owed = a .owed; drs = a .drs; control = a .control }
+
+  alike-due : (x y : Scene) → Alike x y → drsDue setup x ≡ drsDue setup y
+  alike-due x y a = ap₂ (λ (b : Bool) (l : List Status). b && allReady setup l) (a .owed) (a .statuses)
+
+  alike-tells : (x y : Scene) → Alike x y → Alike (tells setup x) (tells setup y)
+  unfolding tells drsArrives drsSet frsArrive
+  alike-tells x y a = by (drsDue setup x) (drsDue setup y) (alike-due x y a)
+    where
+      by : (b c : Bool) → b ≡ c → Alike (cond b (told setup x) x) (cond c (told setup y) y)
+      by true true e = record { statuses = a .statuses; owed = refl; drs = refl; control = a .control }
+      by false false e = a
+      by true false e = absurd (true≢false e)
+      by false true e = absurd (false≢true e)
+
+  alike-ends : (e : Event) (es : List Event) (x y : Scene) → Alike x y → Alike (momentEnds setup e es x) (momentEnds setup e es y)
+  unfolding momentEnds
+  alike-ends e es x y a = by (lastOfMoment e es)
+    where
+      by : (b : Bool) → Alike (cond b (tells setup x) x) (cond b (tells setup y) y)
+      by true = alike-tells x y a
+      by false = a
+
+  -- send the same
+  alike-told : (x y : Scene) → Alike x y → frsTold setup x ≡ frsTold setup y
+  unfolding frsTold frsOfDrs
+  alike-told x y a =
+      ap₂ (λ (b : Bool) (l : List queueFrs.Frs). cond b l []) (alike-due x y a)
+      (ap₂ (λ (b : Bool) (c : PortControl.Control). cond (not b && eqb (c .signalling) 2) (record { id = setup .«port_id»; reason = 1 } ∷ []) []) (a .drs) (a .control))
+
+  alike-frames : (es : List Event) (x y : Scene) → Alike x y → framesOf setup es x ≡ framesOf setup es y
+  unfolding framesOf frsEnding
+  alike-frames [] x y a = refl
+  alike-frames (e ∷ es) x y a =
+      let b = alike-happens e x y a in
+      ap₂ (λ (l m : List queueFrs.Frs). (frsOf setup e ++ cond (lastOfMoment e es) l []) ++ m) (alike-told _ _ b) (alike-frames es _ _ (alike-ends e es _ _ b))
 
 sent-same : (setup : Setup) (t : State) (tally : Tally) → frsSent setup (sceneOf t tally) ≡ frsSent setup (sceneOf t noTally)
-sent-same setup t tally = sent-is setup (sceneOf t tally) ∙ sym (sent-is setup (sceneOf t noTally))
+unfolding frsSent
+sent-same setup t tally =
+    let a : Alike (sceneOf t tally) (sceneOf t noTally) = record { statuses = refl; owed = refl; drs = refl; control = refl } in
+    ap₂ (λ (l m : List queueFrs.Frs). l ++ m) (alike-told setup _ _ a) (alike-frames setup (due (t .dev .clock) (t .statuses)) _ _ (alike-tells setup _ _ a))
 
--- DRS Received after slots became Ready
-told-drs : (setup : Setup) (x : Scene) → settles setup x .root .dev .«drs_received» ≡ (x .root .dev .«drs_received» || drsDue (happened setup x))
-unfolding settles tells drsArrives drsSet frsArrive
-told-drs setup x =
-    either-way (λ (y : Scene). y .root .dev .«drs_received» ≡ (x .root .dev .«drs_received» || drsDue z)) (drsDue z) (told setup z) z
-    (λ e. sym (ap (λ (b : Bool). x .root .dev .«drs_received» || b) e ∙ or-true (x .root .dev .«drs_received»)))
-    (λ e. same ∙ sym (ap (λ (b : Bool). x .root .dev .«drs_received» || b) e ∙ or-false (x .root .dev .«drs_received»)))
+-- ---- DRS Received after slots became Ready
+
+abbrev received : Scene → Bool
+received x = x .root .dev .«drs_received»
+
+-- a DRS is told once these events have happened, if not before
+abbrev toldBy : Setup → List Event → Scene → Bool
+toldBy setup es x = received x || (x .root .dev .owed && allReady setup (setReady es (x .statuses)))
+
+tells-told : (setup : Setup) (es : List Event) (x : Scene) → toldBy setup es (tells setup x) ≡ toldBy setup es x
+unfolding tells drsArrives drsSet frsArrive
+tells-told setup es x = by (drsDue setup x) refl
   where
-    z : Scene
-    z = happened setup x
+    by : (d : Bool) → drsDue setup x ≡ d → toldBy setup es (cond d (told setup x) x) ≡ toldBy setup es x
+    by false e = refl
+    by true e =
+        sym (ap (λ (b : Bool). received x || b)
+        (both _ _ (both-left (x .root .dev .owed) _ e) (all-made-ready setup es (x .statuses) (both-right (x .root .dev .owed) _ e)))
+        ∙ or-true (received x))
 
-    same : z .root .dev .«drs_received» ≡ x .root .dev .«drs_received»
-    same = ap (λ (y : Scene). y .root .dev .«drs_received») (happenAll-is setup (due (x .root .dev .clock) (x .statuses)) x)
+tells-receives : (setup : Setup) (x : Scene) → received (tells setup x) ≡ (received x || drsDue setup x)
+unfolding tells drsArrives drsSet frsArrive
+tells-receives setup x = by (drsDue setup x)
+  where
+    by : (d : Bool) → received (cond d (told setup x) x) ≡ (received x || d)
+    by true = sym (or-true (received x))
+    by false = sym (or-false (received x))
 
--- the first n of a list, where there may be fewer
-take-min : (n : ℕ) (l : List ℕ) → take n l ≡ take (min n (length l)) l
-take-min zero l = ap (λ (k : ℕ). take k l) (let e : 0 ≡ min 0 (length l) = omega arith in e)
-take-min (suc n) [] = sym (take-nil (min (suc n) 0))
-take-min (suc n) (a ∷ l) =
-    ap {B = List ℕ} (λ r. a ∷ r) (take-min n l) ∙ ap (λ (k : ℕ). take k (a ∷ l)) (let e : suc (min n (length l)) ≡ min (suc n) (suc (length l)) = omega arith in e)
+happened-drs : (setup : Setup) (e : Event) (es : List Event) (x : Scene) → received (happenAll setup (e ∷ es) x) ≡ toldBy setup (e ∷ es) x
+unfolding happenAll momentEnds setReady happens frsArrive
+happened-drs setup e [] x = tells-receives setup (happens setup e x)
+happened-drs setup e (f ∷ es) x =
+    happened-drs setup f es (momentEnds setup e (f ∷ es) (happens setup e x)) ∙ by (lastOfMoment e (f ∷ es))
+  where
+    by : (b : Bool) → (let y = happens setup e x in toldBy setup (f ∷ es) (cond b (tells setup y) y) ≡ toldBy setup (f ∷ es) y)
+    by true = tells-told setup (f ∷ es) (happens setup e x)
+    by false = refl
+
+all-drs-told : (setup : Setup) (es : List Event) (x : Scene) → received (happenAll setup es (tells setup x)) ≡ toldBy setup es x
+unfolding happenAll setReady
+all-drs-told setup [] x = tells-receives setup x
+all-drs-told setup (e ∷ es) x = happened-drs setup e es (tells setup x) ∙ tells-told setup (e ∷ es) x
+
+told-drs : (setup : Setup) (x : Scene)
+    → received (settles setup x) ≡ (received x || (x .root .dev .owed && allReady setup (readyBy (x .root .dev .clock) (x .statuses))))
+unfolding settles
+told-drs setup x =
+    all-drs-told setup (due (x .root .dev .clock) (x .statuses)) x
+    ∙ ap (λ (l : List Status). received x || (x .root .dev .owed && allReady setup l)) (due-ready (x .root .dev .clock) (x .statuses))
 
 -- a record has at most one message of its own
 own-most : (setup : Setup) (s : State) (r : Record) → length (ofRecord setup s r) ≤ 1
@@ -319,7 +393,7 @@ module _ (setup : Setup) (s : State) (r : Record) (t : State) (tally : Tally) (o
         list =
             ap (λ (x : Ring). messagesOf (x .cells) (x .queue)) ring-is ∙ outcome .list
             ∙ ap (λ (l : List ℕ). l ++ take (length (s .cells) - found .queue .depth) (map cellOf messages)) (o .list h)
-            ∙ ap (λ (l : List ℕ). keptBy s r ++ l) (take-min (length (s .cells) - found .queue .depth) (map cellOf messages))
+            ∙ ap (λ (l : List ℕ). keptBy s r ++ l) (sym (take-min (length (s .cells) - found .queue .depth) (map cellOf messages)))
             ∙ ap (λ (n : ℕ). keptBy s r ++ take (min (length (s .cells) - found .queue .depth) n) (map cellOf messages)) (length-map messages cellOf)
             ∙ ap (λ (n : ℕ). keptBy s r ++ take n (map cellOf messages)) (sym (outcome .queued) ∙ sym (ap (λ (x : Ring). x .tally .queued) ring-is));
       }
@@ -332,7 +406,7 @@ module _ (setup : Setup) (s : State) (r : Record) (t : State) (tally : Tally) (o
       let i = isDrs r in
       let b = found .«drs_received» in
       let g = eqb (found .control .signalling) 1 in
-      let now = drsDue (happened setup (sceneOf t tally)) in
+      let now = t .dev .owed && allReady setup (readyBy (t .dev .clock) (t .statuses)) in
       record {
         received =
             ap (λ (z : Ring). z .tally .received) ring-is ∙ outcome .interrupt
@@ -445,15 +519,13 @@ calm true false true e = absurd (false≢true e)
 calm true true true e = absurd (false≢true e)
 
 -- what settling sends where nothing is due and no DRS is to be told
-sent-none : (setup : Setup) (x : Scene) → due (x .root .dev .clock) (x .statuses) ≡ [] → drsDue x ≡ false → frsSent setup x ≡ []
-unfolding framesOf setReady
+sent-none : (setup : Setup) (x : Scene) → due (x .root .dev .clock) (x .statuses) ≡ [] → drsDue setup x ≡ false → frsSent setup x ≡ []
+unfolding frsSent framesOf frsTold
 sent-none setup x e d =
-    sent-is setup x
-    ∙ ap (λ (es : List Event). framesOf setup es ++ cond (x .root .dev .owed && allReady (setReady es (x .statuses))) (frsOfDrs (setup .«port_id») (x .root .dev)) []) e
-    ∙ ap (λ (b : Bool). cond b (frsOfDrs (setup .«port_id») (x .root .dev)) []) d
+    ap₂ (λ (b : Bool) (es : List Event). cond b (frsOfDrs (setup .«port_id») (x .root .dev)) [] ++ framesOf setup es (tells setup x)) d e
 
 -- a record that brings nothing and leaves the port's bits, or clears them, has no edges
-module _ (setup : Setup) (s t : State) (d : ℕ) (rest : due (t .dev .clock) (t .statuses) ≡ []) (drs : drsDue (sceneOf t noTally) ≡ false) where
+module _ (setup : Setup) (s t : State) (d : ℕ) (rest : due (t .dev .clock) (t .statuses) ≡ []) (drs : drsDue setup (sceneOf t noTally) ≡ false) where
   no-edges : (not (s .dev .queue .received) && t .dev .queue .received) ≡ false → (not (s .dev .queue .overflow) && t .dev .queue .overflow) ≡ false
       → (not (s .dev .«drs_received») && t .dev .«drs_received») ≡ false → Edges (s .dev) (answered setup s (does t noTally d))
   unfolding answered
@@ -474,9 +546,6 @@ module _ (setup : Setup) (s t : State) (d : ℕ) (rest : due (t .dev .clock) (t 
             ∙ sym (ap (λ (x : Scene). g && (not (s .dev .«drs_received») && x .root .dev .«drs_received»)) same ∙ ap (λ (z : Bool). g && z) c ∙ and-false g);
       }
 
-stayed : (b : Bool) → (not b && b) ≡ false
-stayed = truth 1 (λ b. not b && b) (λ b. false) tt
-
 cleared : (b m : Bool) → (not b && (b && not m)) ≡ false
 cleared = truth 2 (λ b m. not b && (b && not m)) (λ b m. false) tt
 
@@ -491,10 +560,10 @@ module _ (setup : Setup) (defaults : List ℕ) (s : State) (sound : Sound setup 
   rests : due (s .dev .clock) (s .statuses) ≡ []
   rests = due-none 0 (s .dev .clock) (s .statuses) phases
 
-  drs-rests : (s .dev .owed && allReady (s .statuses)) ≡ false
-  drs-rests = calm (s .dev .owed) (s .dev .link) (allReady (s .statuses)) (owed-test sound)
+  drs-rests : (s .dev .owed && allReady setup (s .statuses)) ≡ false
+  drs-rests = calm (s .dev .owed) (s .dev .link) (allReady setup (s .statuses)) (owed-test sound)
 
-  stopped : due (s .dev .clock) (stoppedByReset setup (s .statuses)) ≡ []
+  stopped : due (s .dev .clock) (stoppedByReset setup (s .dev) (s .statuses)) ≡ []
   stopped = due-stopped 0 (setup .slots) (s .dev .clock) (s .statuses) (λ i e. fits .past i (omega arith))
 
   abbrev EdgesAs : Record → State → Tally → ℕ → Type 0
@@ -512,15 +581,15 @@ module _ (setup : Setup) (defaults : List ℕ) (s : State) (sound : Sound setup 
         drs = λ id e. edges-does setup s (MessageRecord (Drs id)) _ _ (o .drs id e) few 0;
         frs = λ id reason e. edges-does setup s (MessageRecord (Frs id reason)) _ _ (o .frs id reason e) few 0;
         linkUp = λ e. edges-does setup s LinkUp _ noTally (o .linkUp e) few 0;
-        linkDown = λ e. no-edges setup s _ 0 stopped refl (stayed (q .received)) (stayed (q .overflow)) (and-false (not (s .dev .«drs_received»)));
+        linkDown = λ e. no-edges setup s _ 0 stopped refl (not-and-self (q .received)) (not-and-self (q .overflow)) (and-false (not (s .dev .«drs_received»)));
         coldReset = no-edges setup s _ 0 stopped refl (and-false (not (q .received))) (and-false (not (q .overflow))) (and-false (not (s .dev .«drs_received»)));
         readQueue = edges-does setup s ReadQueue s noTally (o .readQueue) few _;
         removeOldest =
             no-edges setup s _ 0 rests drs-rests
-            (ap (λ (b : Bool). not (q .received) && b) (removed-received (length (s .cells)) q) ∙ stayed (q .received))
-            (ap (λ (b : Bool). not (q .overflow) && b) (removed-overflow (length (s .cells)) q) ∙ stayed (q .overflow)) (stayed (s .dev .«drs_received»));
+            (ap (λ (b : Bool). not (q .received) && b) (removed-received (length (s .cells)) q) ∙ not-and-self (q .received))
+            (ap (λ (b : Bool). not (q .overflow) && b) (removed-overflow (length (s .cells)) q) ∙ not-and-self (q .overflow)) (not-and-self (s .dev .«drs_received»));
         clearBits = λ mask. no-edges setup s _ 0 rests drs-rests (cleared (q .received) (bit mask 0)) (cleared (q .overflow) (bit mask 1)) (cleared (s .dev .«drs_received») (bit mask 2));
-        control = λ b. no-edges setup s _ 0 rests drs-rests (stayed (q .received)) (stayed (q .overflow)) (stayed (s .dev .«drs_received»));
+        control = λ b. no-edges setup s _ 0 rests drs-rests (not-and-self (q .received)) (not-and-self (q .overflow)) (not-and-self (s .dev .«drs_received»));
         hardwareSet = λ slot word mask e. edges-does setup s (HardwareSet slot word mask) _ noTally (o .hardwareSet slot word mask e) few 0;
         readBits = edges-does setup s ReadBits s noTally (o .readBits) few _;
         noKind = edges-does setup s NoKind s noTally (o .noKind) few 0;
@@ -542,7 +611,7 @@ module _ (setup : Setup) (defaults : List ℕ) (s : State) (sound : Sound setup 
   few-sent : (r : Record) (t : State) (tally : Tally) → Opens setup s r t tally → ofRecord setup s r ≡ [] → length (ofRecord setup s r ++ frsSent setup (sceneOf t noTally)) ≤ 33
   few-sent r t tally o e = rw e (omega (arith, frsSent-most setup (sceneOf t noTally), o .slots))
 
-  few-own : (r : Record) (t : State) → due (t .dev .clock) (t .statuses) ≡ [] → drsDue (sceneOf t noTally) ≡ false
+  few-own : (r : Record) (t : State) → due (t .dev .clock) (t .statuses) ≡ [] → drsDue setup (sceneOf t noTally) ≡ false
       → length (ofRecord setup s r ++ frsSent setup (sceneOf t noTally)) ≤ 33
   few-own r t e d = rw (sent-none setup (sceneOf t noTally) e d, append-nil (ofRecord setup s r)) (omega (arith, own-most setup s r))
 

@@ -23,9 +23,9 @@ use Rattle.records.specs.Sound.{soundPhase, Sound, Fitting}
 use Rattle.records.proofs.SoundFacts.{pending-exactly, phase-test, owed-test}
 
 -- nothing is due at the clock, and no DRS is owed with every slot Ready
-pub record Resting (clock : Nanos) (owed : Bool) (l : List Status) : Type 0 where
+pub record Resting (setup : Setup) (clock : Nanos) (owed : Bool) (l : List Status) : Type 0 where
   pub due : due clock l ≡ []
-  pub drs : (owed && allReady l) ≡ false
+  pub drs : (owed && allReady setup l) ≡ false
 
 -- a slot that is sound isn't due
 pub pends-later : (clock : Nanos) (p : Phase) (c : Cause) (t : Nanos) → soundPhase clock p ≡ true → p ≡ Pending c t → clock .0 < t .0
@@ -60,11 +60,11 @@ all-phases setup defaults s h f i = by (ltb i (setup .slots)) refl
     by false e = ap (λ (t : Status). soundPhase (s .dev .clock) (t .phase)) (f .past i (ltb-false i (setup .slots) e))
 
 -- A sound state is at rest.
-pub sound-rests : (setup : Setup) (defaults : List ℕ) (s : State) → Sound setup s → Fitting setup defaults s → Resting (s .dev .clock) (s .dev .owed) (s .statuses)
+pub sound-rests : (setup : Setup) (defaults : List ℕ) (s : State) → Sound setup s → Fitting setup defaults s → Resting setup (s .dev .clock) (s .dev .owed) (s .statuses)
 sound-rests setup defaults s h f =
     record {
       due = none-due (s .dev .clock) (s .statuses) (all-phases setup defaults s h f);
-      drs = not-owed (s .dev .owed) (s .dev .link) (allReady (s .statuses)) (owed-test h);
+      drs = not-owed (s .dev .owed) (s .dev .link) (allReady setup (s .statuses)) (owed-test h);
     }
 
 -- So there settling changes nothing and brings nothing.

@@ -8,6 +8,7 @@ use mathlib.Core.List.{List, [], _∷_, List·Memᴰ}
 use lib.Dec.{leb, ltb}
 use lib.ListN.{length}
 use borrow.Author.Tests.{ltb-true, ltb-false, lt-ltb, leb-false, le-leb}
+use Rattle.bits.proofs.Choices.{either-way}
 use Rattle.bits.proofs.Tests.{both}
 use Rattle.times.specs.declared.Nanos.{Nanos}
 use Rattle.times.specs.Codes.{greatestTime}
@@ -21,15 +22,15 @@ use Rattle.readiness.specs.declared.Control.{Control as PortControl}
 use Rattle.readiness.specs.Status.{ready, allReady}
 use Rattle.readiness.specs.Root.{frsArrive}
 use Rattle.readiness.specs.Events.{Event, due}
-use Rattle.readiness.specs.Settle.{Scene, happens, happenAll, drsDue, tells, settles}
-use Rattle.readiness.proofs.Order.{either-way, phaseBy}
+use Rattle.readiness.specs.Settle.{Scene, happens, happenAll, lastOfMoment, momentEnds, drsDue, tells, settles}
+use Rattle.readiness.proofs.Order.{phaseBy}
 use Rattle.readiness.proofs.Scenes.{Kept, settled-kept, settled-statuses, told}
 use Rattle.readiness.proofs.Laws.{due-order, settled-drs}
 use Rattle.records.specs.State.{State, statusAt, sceneOf, withLive}
-use Rattle.records.specs.CardRecords.{clockEnd}
+use Rattle.times.specs.Moments.{clockEnd}
 use Rattle.records.specs.Sound.{soundCause, soundPhase, matchesLink, Fitting}
 use Rattle.records.proofs.SoundFacts.{by-tests}
-use Rattle.records.proofs.QueueKept.{SoundRing, small-cells, settle-ring}
+use Rattle.records.proofs.QueueKept.{SoundRing, sound-cells, settle-ring}
 use Rattle.records.proofs.SlotsKept.{at-readyBy}
 use Rattle.records.proofs.Kept.{SoundSetup, Keeps}
 
@@ -68,17 +69,23 @@ link-settled link clock Ready h = h
 link-settled link clock (Pending c t) h = either-way (λ (p : Phase). matchesLink link p ≡ true) (leb (t .0) (clock .0)) Ready (Pending c t) (λ e. h) (λ e. h)
 
 -- nothing is owed after settling that wasn't before
-happenAll-owed : (setup : Setup) (es : List Event) (x : Scene) → happenAll setup es x .root .dev .owed ≡ x .root .dev .owed
-unfolding happenAll happens frsArrive
-happenAll-owed setup [] x = refl
-happenAll-owed setup (e ∷ es) x = happenAll-owed setup es (happens setup e x)
+abbrev owed : Scene → Bool
+owed x = x .root .dev .owed
 
-settles-owed : (setup : Setup) (x : Scene) → settles setup x .root .dev .owed ≡ true → x .root .dev .owed ≡ true
-unfolding settles tells
-settles-owed setup x =
-    let y = happenAll setup (due (x .root .dev .clock) (x .statuses)) x in
-    either-way (λ (z : Scene). z .root .dev .owed ≡ true → x .root .dev .owed ≡ true) (drsDue y) (told setup y) y
-    (λ e f. absurd (false≢true f)) (λ e f. sym (happenAll-owed setup (due (x .root .dev .clock) (x .statuses)) x) ∙ f)
+tells-owed : (setup : Setup) (x : Scene) → owed (tells setup x) ≡ true → owed x ≡ true
+unfolding tells
+tells-owed setup x = either-way (λ (z : Scene). owed z ≡ true → owed x ≡ true) (drsDue setup x) (told setup x) x (λ e f. absurd (false≢true f)) (λ e f. f)
+
+happenAll-owed : (setup : Setup) (es : List Event) (x : Scene) → owed (happenAll setup es x) ≡ true → owed x ≡ true
+unfolding happenAll momentEnds happens frsArrive
+happenAll-owed setup [] x f = f
+happenAll-owed setup (e ∷ es) x f =
+    either-way (λ (z : Scene). owed z ≡ true → owed x ≡ true) (lastOfMoment e es) (tells setup (happens setup e x)) (happens setup e x)
+    (λ b. tells-owed setup (happens setup e x)) (λ b g. g) (happenAll-owed setup es _ f)
+
+settles-owed : (setup : Setup) (x : Scene) → owed (settles setup x) ≡ true → owed x ≡ true
+unfolding settles
+settles-owed setup x f = tells-owed setup x (happenAll-owed setup _ (tells setup x) f)
 
 owed-sound : (owed link all : Bool) → (owed ≡ true → link ≡ true) → (owed && all) ≡ false → (not owed || (link && not all)) ≡ true
 owed-sound false link all f e = refl
@@ -91,7 +98,7 @@ never-pending c t q = let z : _≡_ {A = ℕ} 0 1 = cc in omega arith
 
 module _ (setup : Setup) (good : SoundSetup setup) (defaults : List ℕ) (s : State) (fits : Fitting setup defaults s) where
   -- only the card's slots are due
-  slots-due : (t : State) → Settling setup defaults s t → (e : Event) → List·Memᴰ e (due (t .dev .clock) (t .statuses)) → e .slot < 256
+  pub slots-due : (t : State) → Settling setup defaults s t → (e : Event) → List·Memᴰ e (due (t .dev .clock) (t .statuses)) → e .slot < 256
   slots-due t h e m = by (ltb (e .slot) (setup .slots)) refl
     where
       by : (b : Bool) → ltb (e .slot) (setup .slots) ≡ b → e .slot < 256
@@ -107,14 +114,14 @@ module _ (setup : Setup) (good : SoundSetup setup) (defaults : List ℕ) (s : St
       record {
         sound =
             by-tests setup (withLive x (t .live)) (subst (λ (c : Nanos). c .0 ≤ clockEnd) (sym (k .clock)) (h .clock)) (ring .start) (ring .depth)
-            (small-cells (x .root .cells) (x .root .dev .queue) (ring .small)) (subst (λ (c : PortControl). c .signalling ≤ 2) (sym (k .control)) (h .signalling))
+            (sound-cells (x .root .cells) (x .root .dev .queue) (ring .values)) (subst (λ (c : PortControl). c .signalling ≤ 2) (sym (k .control)) (h .signalling))
             (λ i l.
             ap (λ (v : Status). soundPhase (x .root .dev .clock) (v .phase)) (at i) ∙ ap (λ (c : Nanos). soundPhase c (phaseBy clock (statusAt (t .statuses) i .phase))) (k .clock)
             ∙ phase-settled clock (statusAt (t .statuses) i .phase) (h .phases i l))
             (λ i l.
             ap (λ (v : Status). matchesLink (x .root .dev .link) (v .phase)) (at i) ∙ ap (λ (b : Bool). matchesLink b (phaseBy clock (statusAt (t .statuses) i .phase))) (k .link)
             ∙ link-settled (t .dev .link) clock (statusAt (t .statuses) i .phase) (h .links i l))
-            (owed-sound (x .root .dev .owed) (x .root .dev .link) (allReady (x .statuses)) (λ e. k .link ∙ h .owed (settles-owed setup (sceneOf t tally) e)) (settled-drs setup (sceneOf t tally)));
+            (owed-sound (x .root .dev .owed) (x .root .dev .link) (allReady setup (x .statuses)) (λ e. k .link ∙ h .owed (settles-owed setup (sceneOf t tally) e)) (settled-drs setup (sceneOf t tally)));
         fits = record {
           some = fits .some;
           most = fits .most;

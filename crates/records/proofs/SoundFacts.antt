@@ -1,18 +1,19 @@
 -- Soundness: the test for refusal 5 and what 5 lists, clause by clause; each gives the other.
 -- Assumes nothing.
 use Prim.Native.Nat.{ℕ, zero, suc, _+_, _*_, _≤_, _<_}
-use native.Mathlib.Nat.{eq-or-lt-of-le}
 use native.Mathlib.Omega.{arith}
 use mathlib.Core.Path.{_≡_, refl, ap, sym, subst, _∙_}
-use mathlib.Core.Logic.{_≢_, _↔_, ⊎-elim}
+use mathlib.Core.Logic.{_≢_, _↔_}
 use mathlib.Core.Bool.{Bool, true, false, not, _&&_, _||_, false≢true}
 use mathlib.Core.List.{List, [], _∷_}
 use lib.Dec.{leb, ltb}
 use lib.ListN.{length, getD, List·getD-eq-default}
 use borrow.Author.Tests.{lt-ltb, le-leb, ltb-true, leb-true}
 use Rattle.bits.proofs.Tests.{both, both-left, both-right}
+use Rattle.bits.proofs.Every.{every-at, every-of}
 use Rattle.times.specs.declared.Nanos.{Nanos}
-use Rattle.frs_queue.specs.Queue.{placeOf}
+use Rattle.messages.proofs.Laws.{any-reason}
+use Rattle.frs_queue.specs.Queue.{placeOf, reasonIn}
 use Rattle.readiness.specs.declared.Cause.{Cause}
 use Rattle.readiness.specs.declared.Cause.the-variants.{LinkUp, Flr, D3hot}
 use Rattle.readiness.specs.declared.Phase.{Phase}
@@ -20,10 +21,10 @@ use Rattle.readiness.specs.declared.Phase.the-variants.{Down, Pending, Ready}
 use Rattle.readiness.specs.declared.Status.{Status}
 use Rattle.readiness.specs.declared.Setup.{Setup}
 use Rattle.readiness.specs.declared.Dev.{Dev}
-use Rattle.readiness.specs.Status.{ready, down, readyPhase, isReady, allReady}
+use Rattle.readiness.specs.Status.{ready, down, readyPhase, isReady, allReadyFrom, allReady}
 use Rattle.records.specs.State.{State, statusAt}
-use Rattle.records.specs.CardRecords.{clockEnd}
-use Rattle.records.specs.Sound.{phaseAt, soundCause, soundPhase, matchesLink, soundStatus, soundStatuses, soundCell, soundCells, soundOwed, sound, Sound, Fitting}
+use Rattle.times.specs.Moments.{clockEnd}
+use Rattle.records.specs.Sound.{phaseAt, soundCause, soundPhase, matchesLink, soundStatuses, soundCell, soundCells, soundOwed, sound, Sound, Fitting}
 
 -- ---- each clause of 5
 
@@ -56,6 +57,10 @@ pending-exactly clock cause t = (holds, tested)
     tested : (clock .0 < t .0) × (t .0 ≤ clock .0 + 1006632960) × ((end : Nanos) → cause ≡ Flr end → end .0 ≤ t .0) → (later && most && soundCause cause t) ≡ true
     tested f = both _ _ (both _ _ (lt-ltb (clock .0) (t .0) (f .0)) (le-leb (t .0) (clock .0 + 1006632960) (f .1))) (flr-end-exactly cause t .1 (f .2))
 
+-- A live cell is below 2^20; then its reason has four bits, which an FRS may have.
+pub cell-exactly : (v : ℕ) → (soundCell v ≡ true) ↔ (v < 1048576)
+cell-exactly v = (λ e. ltb-true v 1048576 (both-left (ltb v 1048576) _ e), λ h. both _ _ (lt-ltb v 1048576 h) (any-reason (reasonIn v) (omega arith)))
+
 -- A Down slot only with the link down,
 pub down-exactly : (link : Bool) → (matchesLink link Down ≡ true) ↔ (link ≡ false)
 down-exactly true = (λ e. sym e, λ e. sym e)
@@ -72,15 +77,17 @@ ready-phase Down e = absurd (false≢true e)
 ready-phase (Pending cause t) e = absurd (false≢true e)
 ready-phase Ready e = refl
 
--- all slots are Ready
-pub all-ready-exactly : (l : List Status) → (allReady l ≡ true) ↔ ((i : ℕ) → statusAt l i .phase ≡ Ready)
-unfolding allReady
-all-ready-exactly [] = (λ e i. refl, λ f. refl)
-all-ready-exactly (s ∷ l) = (holds (all-ready-exactly l .0), λ f. both (isReady s) (allReady l) (ap readyPhase (f 0)) (all-ready-exactly l .1 (λ i. f (suc i))))
+-- all slots are Ready, each of which counts
+pub all-ready-exactly : (setup : Setup) (k : ℕ) (l : List Status) → (allReadyFrom setup k l ≡ true) ↔ ((i : ℕ) → statusAt l i .phase ≡ Ready)
+unfolding allReadyFrom
+all-ready-exactly setup k [] = (λ e i. refl, λ f. refl)
+all-ready-exactly setup k (s ∷ l) =
+    let more = all-ready-exactly setup (suc k) l in
+    (holds (more .0), λ f. both (isReady s) (allReadyFrom setup (suc k) l) (ap readyPhase (f 0)) (more .1 (λ i. f (suc i))))
   where
-    holds : (allReady l ≡ true → (i : ℕ) → statusAt l i .phase ≡ Ready) → (isReady s && allReady l) ≡ true → (i : ℕ) → statusAt (s ∷ l) i .phase ≡ Ready
-    holds more e zero = ready-phase (s .phase) (both-left (isReady s) (allReady l) e)
-    holds more e (suc i) = more (both-right (isReady s) (allReady l) e) i
+    holds : (allReadyFrom setup (suc k) l ≡ true → (i : ℕ) → statusAt l i .phase ≡ Ready) → (isReady s && allReadyFrom setup (suc k) l) ≡ true → (i : ℕ) → statusAt (s ∷ l) i .phase ≡ Ready
+    holds more e zero = ready-phase (s .phase) (both-left (isReady s) (allReadyFrom setup (suc k) l) e)
+    holds more e (suc i) = more (both-right (isReady s) (allReadyFrom setup (suc k) l) e) i
 
 owed-bits : (owed link all : Bool) → ((not owed || (link && not all)) ≡ true) ↔ (owed ≡ true → (link ≡ true) × (all ≡ true → ⊥))
 owed-bits false link all = (λ e o. absurd (false≢true o), λ f. refl)
@@ -89,65 +96,33 @@ owed-bits true true true = (λ e o. absurd (false≢true e), λ f. absurd (f ref
 owed-bits true false all = (λ e o. absurd (false≢true e), λ f. absurd (false≢true (f refl .0)))
 
 -- A DRS is owed only with the link up, and not with every slot Ready.
-pub owed-exactly : (d : Dev) (l : List Status)
-    → (soundOwed d l ≡ true) ↔ (d .owed ≡ true → (d .link ≡ true) × (((i : ℕ) → statusAt l i .phase ≡ Ready) → ⊥))
-owed-exactly d l =
-    let bits = owed-bits (d .owed) (d .link) (allReady l) in
-    (λ e o. (bits .0 e o .0, λ f. bits .0 e o .1 (all-ready-exactly l .1 f)), λ g. bits .1 (λ o. (g o .0, λ a. g o .1 (all-ready-exactly l .0 a))))
-
--- ---- a test at every number below a bound
-
--- p holds at every number below n
-unfoldable pub every : ℕ → (ℕ → Bool) → Bool
-every zero p = true
-every (suc n) p = every n p && p n
-
-pub every-at : (n : ℕ) (p : ℕ → Bool) → every n p ≡ true → (i : ℕ) → i < n → p i ≡ true
-unfolding every
-every-at zero p e i h = absurd (omega arith)
-every-at (suc n) p e i h =
-    ⊎-elim
-    (λ (q : suc i ≡ suc n). let m : i ≡ n = omega arith in rw m (both-right (every n p) (p n) e))
-    (λ (k : suc i < suc n). every-at n p (both-left (every n p) (p n) e) i (omega arith))
-    (eq-or-lt-of-le h)
-
-pub every-of : (n : ℕ) (p : ℕ → Bool) → ((i : ℕ) → i < n → p i ≡ true) → every n p ≡ true
-unfolding every
-every-of zero p h = refl
-every-of (suc n) p h = both (every n p) (p n) (every-of n p (λ i k. h i (omega arith))) (h n (omega arith))
-
--- the slots and the cells are tested so
-pub statuses-every : (n : ℕ) (d : Dev) (l : List Status) → soundStatuses n d l ≡ every n (λ i. soundStatus d (statusAt l i))
-unfolding every soundStatuses
-statuses-every zero d l = refl
-statuses-every (suc n) d l = ap (λ (b : Bool). b && soundStatus d (statusAt l n)) (statuses-every n d l)
-
-pub cells-every : (n : ℕ) (cells : List ℕ) (start : ℕ) → soundCells n cells start ≡ every n (λ k. soundCell (getD cells (placeOf (length cells) start k) 0))
-unfolding every soundCells
-cells-every zero cells start = refl
-cells-every (suc n) cells start = ap (λ (b : Bool). b && soundCell (getD cells (placeOf (length cells) start n) 0)) (cells-every n cells start)
+pub owed-exactly : (setup : Setup) (d : Dev) (l : List Status)
+    → (soundOwed setup d l ≡ true) ↔ (d .owed ≡ true → (d .link ≡ true) × (((i : ℕ) → statusAt l i .phase ≡ Ready) → ⊥))
+owed-exactly setup d l =
+    let bits = owed-bits (d .owed) (d .link) (allReady setup l) in
+    (λ e o. (bits .0 e o .0, λ f. bits .0 e o .1 (all-ready-exactly setup 0 l .1 f)), λ g. bits .1 (λ o. (g o .0, λ a. g o .1 (all-ready-exactly setup 0 l .0 a))))
 
 -- ---- the test and what 5 lists
 
 -- soundness by the tests of each slot
 pub by-tests : (setup : Setup) (s : State) → s .dev .clock .0 ≤ clockEnd → s .dev .queue .start < length (s .cells) → s .dev .queue .depth ≤ length (s .cells)
-    → ((k : ℕ) → k < s .dev .queue .depth → getD (s .cells) (placeOf (length (s .cells)) (s .dev .queue .start) k) 0 < 1048576) → s .dev .control .signalling ≤ 2
+    → ((k : ℕ) → k < s .dev .queue .depth → soundCell (getD (s .cells) (placeOf (length (s .cells)) (s .dev .queue .start) k) 0) ≡ true) → s .dev .control .signalling ≤ 2
     → ((i : ℕ) → i < setup .slots → soundPhase (s .dev .clock) (phaseAt s i) ≡ true) → ((i : ℕ) → i < setup .slots → matchesLink (s .dev .link) (phaseAt s i) ≡ true)
-    → soundOwed (s .dev) (s .statuses) ≡ true → Sound setup s
+    → soundOwed setup (s .dev) (s .statuses) ≡ true → Sound setup s
 by-tests setup s clock start depth cells signalling phases links owed =
     record {
       clock = clock;
       start = start;
       depth = depth;
-      cells = cells;
+      cells = λ k l. cell-exactly _ .0 (cells k l);
       signalling = signalling;
       later = λ i c t l e. pends i c t l e .0;
       most = λ i c t l e. pends i c t l e .1;
       flrEnd = λ i end t l e. pends i (Flr end) t l e .2 end refl;
       linkDown = λ i l e. down-exactly (s .dev .link) .0 (subst (λ (p : Phase). matchesLink (s .dev .link) p ≡ true) e (links i l));
       linkUp = λ i l n. other-exactly (s .dev .link) (phaseAt s i) n .0 (links i l);
-      owedLink = λ o. owed-exactly (s .dev) (s .statuses) .0 owed o .0;
-      owedSlots = λ o. owed-exactly (s .dev) (s .statuses) .0 owed o .1;
+      owedLink = λ o. owed-exactly setup (s .dev) (s .statuses) .0 owed o .0;
+      owedSlots = λ o. owed-exactly setup (s .dev) (s .statuses) .0 owed o .1;
     }
   where
     pends : (i : ℕ) (c : Cause) (t : Nanos) → i < setup .slots → phaseAt s i ≡ Pending c t
@@ -180,8 +155,11 @@ module _ {setup : Setup} {s : State} (h : Sound setup s) where
       by Ready e = h .linkUp i l (λ q. ready-not-down (sym e ∙ q))
       by (Pending c t) e = h .linkUp i l (λ q. pending-not-down c t (sym e ∙ q))
 
-  pub owed-test : soundOwed (s .dev) (s .statuses) ≡ true
-  owed-test = owed-exactly (s .dev) (s .statuses) .1 (λ o. (h .owedLink o, h .owedSlots o))
+  pub cell-test : (k : ℕ) → k < s .dev .queue .depth → soundCell (getD (s .cells) (placeOf (length (s .cells)) (s .dev .queue .start) k) 0) ≡ true
+  cell-test k l = cell-exactly _ .1 (h .cells k l)
+
+  pub owed-test : soundOwed setup (s .dev) (s .statuses) ≡ true
+  owed-test = owed-exactly setup (s .dev) (s .statuses) .1 (λ o. (h .owedLink o, h .owedSlots o))
 
 -- A state that passes the test for refusal 5 is sound in every point.
 pub sound-facts : (setup : Setup) (s : State) → sound setup s ≡ true → Sound setup s
@@ -196,17 +174,16 @@ sound-facts setup s t =
     let e = c && soundCells (q .depth) (s .cells) (q .start) in
     let f = e && leb (d .control .signalling) 2 in
     let g = f && soundStatuses (setup .slots) d (s .statuses) in
-    let tg : g ≡ true = both-left g (soundOwed d (s .statuses)) t in
+    let tg : g ≡ true = both-left g (soundOwed setup d (s .statuses)) t in
     let tf : f ≡ true = both-left f _ tg in
     let te : e ≡ true = both-left e _ tf in
     let tc : c ≡ true = both-left c _ te in
     let tb : b ≡ true = both-left b _ tc in
-    let slots = every-at (setup .slots) _ (sym (statuses-every (setup .slots) d (s .statuses)) ∙ both-right f _ tg) in
-    let cells = every-at (q .depth) _ (sym (cells-every (q .depth) (s .cells) (q .start)) ∙ both-right c _ te) in
+    let slots = every-at (setup .slots) _ (both-right f _ tg) in
     by-tests setup s (leb-true (d .clock .0) clockEnd (both-left a _ tb)) (ltb-true (q .start) n (both-right a _ tb)) (leb-true (q .depth) n (both-right b _ tc))
-    (λ k h. ltb-true _ 1048576 (cells k h)) (leb-true (d .control .signalling) 2 (both-right e _ tf))
+    (every-at (q .depth) _ (both-right c _ te)) (leb-true (d .control .signalling) 2 (both-right e _ tf))
     (λ i h. both-left (soundPhase (d .clock) (phaseAt s i)) _ (slots i h)) (λ i h. both-right (soundPhase (d .clock) (phaseAt s i)) _ (slots i h))
-    (both-right g (soundOwed d (s .statuses)) t)
+    (both-right g (soundOwed setup d (s .statuses)) t)
 
 -- A state that is sound in every point passes the test.
 pub facts-sound : (setup : Setup) (s : State) → Sound setup s → sound setup s ≡ true
@@ -221,9 +198,9 @@ facts-sound setup s h =
     (both _ _
     (both _ _ (le-leb (d .clock .0) clockEnd (h .clock)) (lt-ltb (q .start) (length (s .cells)) (h .start)))
     (le-leb (q .depth) (length (s .cells)) (h .depth)))
-    (cells-every (q .depth) (s .cells) (q .start) ∙ every-of (q .depth) _ (λ k l. lt-ltb _ 1048576 (h .cells k l))))
+    (every-of (q .depth) _ (cell-test h)))
     (le-leb (d .control .signalling) 2 (h .signalling)))
-    (statuses-every (setup .slots) d (s .statuses) ∙ every-of (setup .slots) _ (λ i l. both _ _ (phase-test h i l) (link-test h i l))))
+    (every-of (setup .slots) _ (λ i l. both _ _ (phase-test h i l) (link-test h i l))))
     (owed-test h)
 
 -- Refusal 5, the carried bytes aside: the test passes exactly on a sound state.
@@ -240,7 +217,7 @@ down-sound setup s clock some signalling link owed start depth slots =
     by-tests setup s clock (omega arith) (omega arith) (λ k h. absurd (omega arith)) signalling
     (λ i h. ap (λ (v : Status). soundPhase (s .dev .clock) (v .phase)) (slots i h))
     (λ i h. ap (λ (v : Status). matchesLink (s .dev .link) (v .phase)) (slots i h) ∙ ap not link)
-    (ap (λ (b : Bool). not b || (s .dev .link && not (allReady (s .statuses)))) owed)
+    (ap (λ (b : Bool). not b || (s .dev .link && not (allReady setup (s .statuses)))) owed)
 
 -- One status per slot and 64 registers per slot: the state fits the set-up.
 pub exact-fits : (setup : Setup) (defaults : List ℕ) (s : State) → 0 < setup .slots → setup .slots ≤ 32 → length (s .statuses) ≡ setup .slots

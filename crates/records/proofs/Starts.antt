@@ -13,7 +13,7 @@ use borrow.Author.Tests.{leb-true, le-leb, eqb-true, eq-eqb, ltb-true, ltb-false
 use Rattle.bits.proofs.Tests.{same-test}
 use Rattle.times.specs.declared.Nanos.{Nanos}
 use Rattle.times.specs.Codes.{nanosOf}
-use Rattle.registers.specs.Rows.{startsFlr}
+use Rattle.registers.specs.Rows.{flrCapabilityWord, startsFlr}
 use Rattle.registers.specs.Words.{writeWord}
 use Rattle.frs_queue.specs.declared.Tally.{Tally}
 use Rattle.frs_queue.specs.Queue.{noTally}
@@ -32,11 +32,11 @@ use Rattle.records.specs.declared.Request.{Request}
 use Rattle.records.specs.declared.Record.the-variants as kind
 use Rattle.records.specs.declared.Crs.{Crs}
 use Rattle.records.specs.declared.Crs.the-variants.{Shown, VisibilityOff, NotVendorId}
-use Rattle.records.specs.State.{State, statusAt, seatOf, putBack, sceneOf, kindOf}
+use Rattle.records.specs.State.{State, statusAt, seatOf, putBack, sceneOf, slotKind}
 use Rattle.records.specs.Answer.{Effect, refused, does, answered, completionNumber}
 use Rattle.records.specs.Route.{crsOf, crsCompletion, phaseRoute, routeCompletion, refusedData, isAccess}
 use Rattle.records.specs.Requests.{wordAt, writeEffect, writeDone}
-use Rattle.records.specs.CardRecords.{clockEnd}
+use Rattle.times.specs.Moments.{clockEnd}
 use Rattle.records.specs.Run.{atSlot, effect, run}
 use Rattle.records.proofs.Clauses.{From3To0, write-starts-flr, write-starts-d3hot, write-starts-nothing, no-longer, Does, LinkedUp, link-up}
 use Rattle.records.proofs.Leaving.{routed, seatWritten}
@@ -81,10 +81,10 @@ module _ (setup : Setup) (defaults : List ℕ) (s : State) (c : s .dev .clock .0
     old = wordAt (s .live) (q .slot) (q .word)
 
     abbrev new : ℕ
-    new = writeWord (kindOf setup (q .slot)) (q .word) old value (q .enables)
+    new = writeWord (slotKind setup (q .slot)) (q .word) old value (q .enables)
 
     abbrev flr : Bool
-    flr = startsFlr (kindOf setup (q .slot)) (q .word) value (q .enables) (wordAt defaults (q .slot) 0x1D)
+    flr = startsFlr (slotKind setup (q .slot)) (q .word) value (q .enables) (wordAt defaults (q .slot) (flrCapabilityWord (slotKind setup (q .slot))))
 
     -- its slot's status once it is answered
     abbrev left : Status
@@ -98,14 +98,14 @@ module _ (setup : Setup) (defaults : List ℕ) (s : State) (c : s .dev .clock .0
     left-is =
         let y = seatWritten setup defaults s q value in
         let r = routed setup s false q in
-        let slot = access-facts (setup .slots) (s .dev) (statusAt (s .statuses) (q .slot)) false q access .0 .slot in
+        let slot = access-facts (setup .slots) (slotKind setup (q .slot)) (s .dev) (statusAt (s .statuses) (q .slot)) false q access .0 .slot in
         ap (λ (b : Bool).
         statusAt (answered setup s (atSlot s (q .slot)
-        (cond b (writeDone (kindOf setup (q .slot)) (entryOf setup (q .slot)) defaults q value (seatOf s (q .slot))) (refused (routeCompletion r) (refusedData false (q .enables) r))))
+        (cond b (writeDone (slotKind setup (q .slot)) (entryOf setup (q .slot)) defaults q value (seatOf s (q .slot))) (refused (routeCompletion r) (refusedData false (q .enables) r))))
         .after .statuses) (q .slot)) access
         ∙ settled-at (putBack s (q .slot) y) noTally 0 (q .slot)
         ∙ ap (λ (d : Dev). record { phase = phaseBy (d .clock) (statusAt (set (s .statuses) (q .slot) (y .status)) (q .slot) .phase) })
-        (write-dev (kindOf setup (q .slot)) (entryOf setup (q .slot)) defaults q value (seatOf s (q .slot)))
+        (write-dev (slotKind setup (q .slot)) (entryOf setup (q .slot)) defaults q value (seatOf s (q .slot)))
         ∙ ap (λ (v : Status). record { phase = phaseBy (s .dev .clock) (v .phase) }) (getD-set-same (s .statuses) (q .slot) (y .status) ready (omega arith))
 
     -- One that starts an FLR: Pending until c + T with T its slot's FLR Time, in progress until c + min(T, 100,000,000).
@@ -114,7 +114,7 @@ module _ (setup : Setup) (defaults : List ℕ) (s : State) (c : s .dev .clock .0
     after-flr e =
         left-is
         ∙ ap (λ (v : Status). record { phase = phaseBy (s .dev .clock) (v .phase) })
-        (write-starts-flr (kindOf setup (q .slot)) (entryOf setup (q .slot)) defaults q value (seatOf s (q .slot)) (omega arith) e)
+        (write-starts-flr (slotKind setup (q .slot)) (entryOf setup (q .slot)) defaults q value (seatOf s (q .slot)) (omega arith) e)
         ∙ for-time (s .dev .clock) _ _
 
     -- One that takes PowerState of 44h from 3 to 0: Pending until c + its slot's D3hot time.
@@ -122,7 +122,7 @@ module _ (setup : Setup) (defaults : List ℕ) (s : State) (c : s .dev .clock .0
     after-d3hot h =
         left-is
         ∙ ap (λ (v : Status). record { phase = phaseBy (s .dev .clock) (v .phase) })
-        (write-starts-d3hot (kindOf setup (q .slot)) (entryOf setup (q .slot)) defaults q value (seatOf s (q .slot)) (omega arith) h)
+        (write-starts-d3hot (slotKind setup (q .slot)) (entryOf setup (q .slot)) defaults q value (seatOf s (q .slot)) (omega arith) h)
         ∙ for-time (s .dev .clock) _ _
 
     -- Any other: Ready, as it was.
@@ -130,9 +130,9 @@ module _ (setup : Setup) (defaults : List ℕ) (s : State) (c : s .dev .clock .0
     after-other e f =
         left-is
         ∙ ap (λ (v : Status). record { phase = phaseBy (s .dev .clock) (v .phase) })
-        (write-starts-nothing (kindOf setup (q .slot)) (entryOf setup (q .slot)) defaults q value (seatOf s (q .slot)) e f)
+        (write-starts-nothing (slotKind setup (q .slot)) (entryOf setup (q .slot)) defaults q value (seatOf s (q .slot)) e f)
         ∙ ap (λ (p : Phase). record { phase = phaseBy (s .dev .clock) p })
-        (access-facts (setup .slots) (s .dev) (statusAt (s .statuses) (q .slot)) false q access .2)
+        (access-facts (setup .slots) (slotKind setup (q .slot)) (s .dev) (statusAt (s .statuses) (q .slot)) false q access .2)
 
 -- ---- how long an FLR is answered 18
 
@@ -157,6 +157,6 @@ flr-18-exactly setup defaults s isRead q value end t h up p =
         (sym (ap completionNumber
         (request-completion setup defaults s isRead q value
         ∙ ap routeCompletion
-        (by-phase (setup .slots) (s .dev) (statusAt (s .statuses) (q .slot)) isRead q h up (Pending (cause.Flr end) t) p
+        (by-phase (setup .slots) (slotKind setup (q .slot)) (s .dev) (statusAt (s .statuses) (q .slot)) isRead q h up (Pending (cause.Flr end) t) p
         ∙ no-longer (s .dev .clock) end t (crsOf (s .dev .control .visibility) isRead q) (ltb-false (s .dev .clock .0) (end .0) b))))
         ∙ e))

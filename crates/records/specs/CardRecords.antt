@@ -1,26 +1,19 @@
 -- Records that touch every slot: advance clock, link up, link down, cold reset (01, "Trace records", "Readiness").
 -- Assumes nothing.
 use Prim.Native.Nat.{ℕ, _+_}
-use mathlib.Core.Bool.{Bool, true, false, cond}
+use mathlib.Core.Bool.{cond}
 use mathlib.Core.List.{List}
 use lib.Dec.{leb}
 use Rattle.times.specs.declared.Nanos.{Nanos}
-use Rattle.times.specs.Moments.{sumOf}
+use Rattle.times.specs.Moments.{sumOf, clockEnd}
 use Rattle.config_space.specs.Functions.{linkResetAll, coldReset}
 use Rattle.frs_queue.specs.Queue.{noTally}
 use Rattle.readiness.specs.declared.Setup.{Setup}
-use Rattle.readiness.specs.declared.Dev.{Dev}
+use Rattle.readiness.specs.Fields.{withClock}
 use Rattle.readiness.specs.Status.{startedByLinkUp, afterLinkUp, stoppedByReset, afterLinkDown, afterColdReset}
 use Rattle.records.specs.declared.Completion.the-variants as completion
-use Rattle.records.specs.State.{State, state, cardKind}
+use Rattle.records.specs.State.{State, state, slotKind}
 use Rattle.records.specs.Answer.{Effect, refused, does}
-
--- the clock goes no further than 10^15
-abbrev pub clockEnd : ℕ
-clockEnd = 1000000000000000
-
-abbrev pub withClock : Dev → Nanos → Dev
-withClock d t = record { clock = t; link = d .link; owed = d .owed; «drs_received» = d .«drs_received»; control = d .control; queue = d .queue }
 
 -- advance clock; 22 if the clock would pass 10^15
 unfoldable pub advanceEffect : Nanos → State → Effect State
@@ -34,14 +27,14 @@ linkUpEffect setup s =
     cond (s .dev .link) (refused completion.WrongState 0)
     (does (state (afterLinkUp (s .dev)) (startedByLinkUp setup (s .dev) (s .statuses)) (s .live) (s .cells)) noTally 0)
 
--- link down: registers take their link-down reset; 23 when down
+-- link down: each slot's registers take their link-down reset; 23 when down
 unfoldable pub linkDownEffect : Setup → (defaults : List ℕ) → State → Effect State
 linkDownEffect setup defaults s =
     cond (s .dev .link)
-    (does (state (afterLinkDown (s .dev)) (stoppedByReset setup (s .statuses)) (linkResetAll (cardKind setup) (s .live) defaults) (s .cells)) noTally 0)
+    (does (state (afterLinkDown (s .dev)) (stoppedByReset setup (s .dev) (s .statuses)) (linkResetAll (slotKind setup) (s .live) defaults) (s .cells)) noTally 0)
     (refused completion.WrongState 0)
 
 -- cold reset: live registers equal the defaults
 unfoldable pub coldResetEffect : Setup → (defaults : List ℕ) → State → Effect State
 coldResetEffect setup defaults s =
-    does (state (afterColdReset (s .dev)) (stoppedByReset setup (s .statuses)) (coldReset (s .live) defaults) (s .cells)) noTally 0
+    does (state (afterColdReset (s .dev)) (stoppedByReset setup (s .dev) (s .statuses)) (coldReset (s .live) defaults) (s .cells)) noTally 0

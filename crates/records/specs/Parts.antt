@@ -10,7 +10,7 @@ use Rattle.frs_queue.specs.Queue.{noTally}
 use Rattle.readiness.specs.declared.Slot.{Slot}
 use Rattle.readiness.specs.declared.Setup.{Setup}
 use Rattle.readiness.specs.declared.Status.{Status}
-use Rattle.readiness.specs.Settle.{SlotScene, slotSettles}
+use Rattle.readiness.specs.Settle.{slotSettles}
 use Rattle.records.specs.declared.Record.{Record}
 use Rattle.records.specs.declared.Record.the-variants.{Advance, Read, Write, Message, LinkUp, LinkDown, ColdReset, ReadQueue, RemoveOldest, ClearBits, Control, HardwareSet, ReadBits, NoKind}
 use Rattle.records.specs.declared.Completion.the-variants as completion
@@ -27,25 +27,25 @@ use Rattle.records.specs.PortRecords.{Front, front, messageEffect, readQ
 use Rattle.records.specs.CardRecords.{advanceEffect, linkUpEffect, linkDownEffect, coldResetEffect}
 
 -- a request to a slot that there is not touches nothing
-abbrev pub partAt : (slots slot : ℕ) → Part
-partAt slots slot = cond (ltb slot slots) (OneSlot slot) PortAlone
+abbrev pub partAt : Setup → (slot : ℕ) → Part
+partAt setup slot = cond (ltb slot (setup .slots)) (OneSlot slot) PortAlone
 
 -- which part a record touches
-abbrev pub partOf : (slots : ℕ) → Record → Part
-partOf slots (Advance by) = WholeCard
-partOf slots (Read q) = partAt slots (q .slot)
-partOf slots (Write q value) = partAt slots (q .slot)
-partOf slots (Message m) = PortAlone
-partOf slots LinkUp = WholeCard
-partOf slots LinkDown = WholeCard
-partOf slots ColdReset = WholeCard
-partOf slots ReadQueue = PortAlone
-partOf slots RemoveOldest = PortAlone
-partOf slots (ClearBits mask) = PortAlone
-partOf slots (Control b) = PortAlone
-partOf slots (HardwareSet slot word mask) = partAt slots slot
-partOf slots ReadBits = PortAlone
-partOf slots NoKind = PortAlone
+abbrev pub partOf : Setup → Record → Part
+partOf setup (Advance by) = WholeCard
+partOf setup (Read q) = partAt setup (q .slot)
+partOf setup (Write q value) = partAt setup (q .slot)
+partOf setup (Message m) = PortAlone
+partOf setup LinkUp = WholeCard
+partOf setup LinkDown = WholeCard
+partOf setup ColdReset = WholeCard
+partOf setup ReadQueue = PortAlone
+partOf setup RemoveOldest = PortAlone
+partOf setup (ClearBits mask) = PortAlone
+partOf setup (Control b) = PortAlone
+partOf setup (HardwareSet slot word mask) = partAt setup slot
+partOf setup ReadBits = PortAlone
+partOf setup NoKind = PortAlone
 
 -- ---- one slot
 -- what a record does to a slot's part; other records do nothing there

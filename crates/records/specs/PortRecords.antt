@@ -1,7 +1,7 @@
 -- Records that touch the root port alone: message, queue register, remove oldest, status bits, control (01, "Trace records").
 -- Assumes nothing.
 use Prim.Native.Nat.{ℕ, _+_, _*_, _/_, _%_}
-use mathlib.Core.Bool.{Bool, true, false, not, _&&_, _||_, cond}
+use mathlib.Core.Bool.{not, _&&_, _||_, cond}
 use mathlib.Core.List.{List, [], _∷_}
 use lib.Dec.{eqb, ltb}
 use lib.ListN.{length}
@@ -12,6 +12,7 @@ use Rattle.frs_queue.specs.declared.Queue.{Queue}
 use Rattle.frs_queue.specs.Queue.{noTally, removed, registerOf}
 use Rattle.readiness.specs.declared.Control.{Control}
 use Rattle.readiness.specs.declared.Dev.{Dev}
+use Rattle.readiness.specs.Fields.{withDrsReceived, withControl, withQueue}
 use Rattle.readiness.specs.Root.{Root, frsArrive, drsArrives}
 use Rattle.records.specs.declared.Completion.the-variants as completion
 use Rattle.records.specs.Answer.{Effect, refused, does, one}
@@ -44,26 +45,16 @@ messageEffect portId m p = cond (p .dev .link) (messageDone portId m p) (refused
 abbrev pub readQueueEffect : Front → Effect Front
 readQueueEffect p = does p noTally (registerOf (p .cells) (p .dev .queue))
 
--- the device with other port bits, or another queue
-abbrev pub withQueue : Dev → Queue → Dev
-withQueue d q = record { clock = d .clock; link = d .link; owed = d .owed; «drs_received» = d .«drs_received»; control = d .control; queue = q }
-
 -- remove oldest
 abbrev pub removeEffect : Front → Effect Front
 removeEffect p = does (front (withQueue (p .dev) (removed (length (p .cells)) (p .dev .queue))) (p .cells)) noTally 0
 
 -- clear status bits where 1: 0 Received, 1 Overflow, 2 DRS Received; others ignored
+abbrev pub clearedQueue : ℕ → Queue → Queue
+clearedQueue mask q = record { start = q .start; depth = q .depth; received = q .received && not (bit mask 0); overflow = q .overflow && not (bit mask 1) }
+
 unfoldable pub clearedDev : ℕ → Dev → Dev
-clearedDev mask d =
-    let q = d .queue in
-    record {
-      clock = d .clock;
-      link = d .link;
-      owed = d .owed;
-      «drs_received» = d .«drs_received» && not (bit mask 2);
-      control = d .control;
-      queue = record { start = q .start; depth = q .depth; received = q .received && not (bit mask 0); overflow = q .overflow && not (bit mask 1) };
-    }
+clearedDev mask d = withQueue (withDrsReceived d (d .«drs_received» && not (bit mask 2))) (clearedQueue mask (d .queue))
 
 abbrev pub clearEffect : ℕ → Front → Effect Front
 clearEffect mask p = does (front (clearedDev mask (p .dev)) (p .cells)) noTally 0
@@ -71,9 +62,6 @@ clearEffect mask p = does (front (clearedDev mask (p .dev)) (p .cells)) noTally 
 -- the control byte: bit 0 CRS visibility, bit 1 FRS interrupt, bits 3:2 signalling
 unfoldable pub controlOf : ℕ → Control
 controlOf b = record { visibility = bit b 0; «frs_interrupt» = bit b 1; signalling = b / 4 % 4 }
-
-abbrev pub withControl : Dev → Control → Dev
-withControl d c = record { clock = d .clock; link = d .link; owed = d .owed; «drs_received» = d .«drs_received»; control = c; queue = d .queue }
 
 -- a control byte above 15, or signalling 3, is refused
 unfoldable pub controlEffect : ℕ → Front → Effect Front

@@ -1,19 +1,17 @@
 -- Records that touch one slot: configuration read, configuration write, hardware set (01, "Register attributes", "Readiness").
 -- Assumes nothing.
 use Prim.Native.Nat.{ℕ}
-use mathlib.Core.Bool.{Bool, true, false, not, _&&_, cond}
+use mathlib.Core.Bool.{true, false, not, cond}
 use mathlib.Core.List.{List}
-use lib.Dec.{eqb, ltb}
+use lib.Dec.{ltb}
 use lib.ListN.{getD, set}
 use Rattle.bits.specs.Bits.{bit}
 use Rattle.registers.specs.declared.Kind.{Kind}
-use Rattle.registers.specs.declared.Kind.the-variants.{Endpoint}
-use Rattle.registers.specs.Rows.{startsFlr}
-use Rattle.registers.specs.Words.{readWord, writeWord, hardwareSet, powerState}
+use Rattle.registers.specs.Rows.{flrCapabilityWord, startsFlr}
+use Rattle.registers.specs.Words.{readWord, writeWord, hardwareSet, startsD3hot}
 use Rattle.config_space.specs.Functions.{linkResetSlot, flrResetSlot}
 use Rattle.frs_queue.specs.Queue.{noTally}
 use Rattle.readiness.specs.declared.Slot.{Slot}
-use Rattle.readiness.specs.declared.Status.{Status}
 use Rattle.readiness.specs.Status.{isReady, startedByFlr, startedByD3hot}
 use Rattle.records.specs.declared.Request.{Request}
 use Rattle.records.specs.declared.Completion.the-variants as completion
@@ -28,10 +26,6 @@ wordAt l slot word = getD l (wordPlace slot word) 0
 -- configuration read of a Ready slot
 abbrev pub readDone : Kind → Request → Seat → Effect Seat
 readDone kind q z = does z noTally (readWord kind (q .word) (wordAt (z .live) (q .slot) (q .word)) (q .enables))
-
--- a write that takes PowerState from 3 to 0
-unfoldable pub startsD3hot : (word old new : ℕ) → Bool
-startsD3hot word old new = eqb word 0x11 && eqb (powerState old) 3 && eqb (powerState new) 0
 
 -- what a finished write to a word, which was `old` and is `new`, starts: the slot's status and its registers
 unfoldable pub afterFlr : Kind → Slot → (defaults : List ℕ) → (slot : ℕ) → Seat → Seat
@@ -52,8 +46,8 @@ writeSeat kind entry defaults q value z =
     let old = wordAt (z .live) (q .slot) (q .word) in
     let new = writeWord kind (q .word) old value (q .enables) in
     let w = written (q .slot) (q .word) new z in
-    cond (startsFlr kind (q .word) value (q .enables) (wordAt defaults (q .slot) 0x1D)) (afterFlr kind entry defaults (q .slot) w)
-    (cond (startsD3hot (q .word) old new) (afterD3hot kind entry defaults (q .slot) new w) w)
+    cond (startsFlr kind (q .word) value (q .enables) (wordAt defaults (q .slot) (flrCapabilityWord kind))) (afterFlr kind entry defaults (q .slot) w)
+    (cond (startsD3hot kind (q .word) old new) (afterD3hot kind entry defaults (q .slot) new w) w)
 
 abbrev pub writeDone : Kind → Slot → (defaults : List ℕ) → Request → (value : ℕ) → Seat → Effect Seat
 writeDone kind entry defaults q value z = does (writeSeat kind entry defaults q value z) noTally 0
@@ -61,12 +55,12 @@ writeDone kind entry defaults q value z = does (writeSeat kind entry defaults q 
 -- a read or a write, by its route
 unfoldable pub readEffect : (slots : ℕ) → Kind → Request → Seat → Effect Seat
 readEffect slots kind q z =
-    let r = routeOf slots (z .dev) (z .status) true q in
+    let r = routeOf slots kind (z .dev) (z .status) true q in
     cond (isAccess r) (readDone kind q z) (refused (routeCompletion r) (refusedData true (q .enables) r))
 
 unfoldable pub writeEffect : (slots : ℕ) → Kind → Slot → (defaults : List ℕ) → Request → (value : ℕ) → Seat → Effect Seat
 writeEffect slots kind entry defaults q value z =
-    let r = routeOf slots (z .dev) (z .status) false q in
+    let r = routeOf slots kind (z .dev) (z .status) false q in
     cond (isAccess r) (writeDone kind entry defaults q value z) (refused (routeCompletion r) (refusedData false (q .enables) r))
 
 -- hardware sets those mask bits that lie in C; order: 20, 21, 23

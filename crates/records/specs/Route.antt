@@ -4,6 +4,7 @@ use Prim.Native.Nat.{ℕ}
 use mathlib.Core.Bool.{Bool, true, false, not, _&&_, _||_, cond}
 use lib.Dec.{eqb, ltb}
 use Rattle.bits.specs.Bits.{bit, word, enabled}
+use Rattle.registers.specs.declared.Kind.{Kind}
 use Rattle.registers.specs.Words.{laneMask}
 use Rattle.times.specs.declared.Nanos.{Nanos}
 use Rattle.readiness.specs.declared.Cause.{Cause}
@@ -40,9 +41,9 @@ phaseRoute clock Down crs = route.LinkDown
 phaseRoute clock Ready crs = route.Access
 phaseRoute clock (Pending cause t) crs = pendingRoute clock cause t crs
 
--- order: 20, 21, 24, 18, then 16 or 17
-unfoldable pub routeOf : (slots : ℕ) → Dev → Status → (isRead : Bool) → Request → Route
-routeOf slots dev status isRead q =
+-- order: 20, 21, 24, 18, then 16 or 17; the same for every kind
+unfoldable pub routeOf : (slots : ℕ) → Kind → Dev → Status → (isRead : Bool) → Request → Route
+routeOf slots kind dev status isRead q =
     cond (not (ltb (q .slot) slots)) route.NoSlot
     (cond (ltb 63 (q .word)) route.NoWord
     (cond (ltb 15 (q .enables)) route.BadEnables

@@ -1,15 +1,13 @@
 -- A record runs (01, "Trace records").
 -- Assumes nothing.
 use Prim.Native.Nat.{ℕ}
-use mathlib.Core.Bool.{Bool, true, false}
 use mathlib.Core.List.{List}
 use Rattle.frs_queue.specs.Queue.{noTally}
-use Rattle.readiness.specs.declared.Slot.{Slot}
 use Rattle.readiness.specs.declared.Setup.{Setup}
 use Rattle.readiness.specs.Status.{entryOf}
 use Rattle.records.specs.declared.Record.{Record}
 use Rattle.records.specs.declared.Record.the-variants.{Advance, Read, Write, Message, LinkUp, LinkDown, ColdReset, ReadQueue, RemoveOldest, ClearBits, Control, HardwareSet, ReadBits, NoKind}
-use Rattle.records.specs.State.{State, state, Seat, seatOf, putBack, kindOf}
+use Rattle.records.specs.State.{State, state, Seat, seatOf, putBack, slotKind}
 use Rattle.records.specs.Answer.{Effect, refused, does, Ran, answered}
 use Rattle.records.specs.Requests.{readEffect, writeEffect, hardwareEffect}
 use Rattle.records.specs.PortRecords.{Front, front, messageEffect, readQueueEffect, removeEffect, clearEffect, controlEffect, readBitsEffect}
@@ -30,9 +28,9 @@ frontOf s = front (s .dev) (s .cells)
 -- what each record does
 unfoldable pub effect : Setup → (defaults : List ℕ) → State → Record → Effect State
 effect setup defaults s (Advance by) = advanceEffect by s
-effect setup defaults s (Read q) = atSlot s (q .slot) (readEffect (setup .slots) (kindOf setup (q .slot)) q (seatOf s (q .slot)))
+effect setup defaults s (Read q) = atSlot s (q .slot) (readEffect (setup .slots) (slotKind setup (q .slot)) q (seatOf s (q .slot)))
 effect setup defaults s (Write q value) =
-    atSlot s (q .slot) (writeEffect (setup .slots) (kindOf setup (q .slot)) (entryOf setup (q .slot)) defaults q value (seatOf s (q .slot)))
+    atSlot s (q .slot) (writeEffect (setup .slots) (slotKind setup (q .slot)) (entryOf setup (q .slot)) defaults q value (seatOf s (q .slot)))
 effect setup defaults s (Message m) = atPort s (messageEffect (setup .«port_id») m (frontOf s))
 effect setup defaults s LinkUp = linkUpEffect setup s
 effect setup defaults s LinkDown = linkDownEffect setup defaults s
@@ -42,7 +40,7 @@ effect setup defaults s RemoveOldest = atPort s (removeEffect (frontOf s))
 effect setup defaults s (ClearBits mask) = atPort s (clearEffect mask (frontOf s))
 effect setup defaults s (Control b) = atPort s (controlEffect b (frontOf s))
 effect setup defaults s (HardwareSet slot word mask) =
-    atSlot s slot (hardwareEffect (setup .slots) (kindOf setup slot) slot word mask (seatOf s slot))
+    atSlot s slot (hardwareEffect (setup .slots) (slotKind setup slot) slot word mask (seatOf s slot))
 effect setup defaults s ReadBits = atPort s (readBitsEffect (frontOf s))
 effect setup defaults s NoKind = does s noTally 0
 

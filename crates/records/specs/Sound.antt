@@ -1,15 +1,17 @@
 -- Soundness of port and statuses (01, "Numbers given for no", refusal 5), but for the carried bytes.
 -- Assumes nothing.
-use Prim.Native.Nat.{ℕ, suc, _+_, _*_, _≤_, _<_}
+use Prim.Native.Nat.{ℕ, _+_, _*_, _≤_, _<_}
 use mathlib.Core.Logic.{_≢_}
 use mathlib.Core.Path.{_≡_}
-use mathlib.Core.Bool.{Bool, true, false, not, _&&_, _||_, cond}
-use mathlib.Core.List.{List, [], _∷_}
-use lib.Dec.{leb, ltb, eqb}
+use mathlib.Core.Bool.{Bool, true, false, not, _&&_, _||_}
+use mathlib.Core.List.{List}
+use lib.Dec.{leb, ltb}
 use lib.ListN.{length, getD}
+use Rattle.bits.specs.Every.{every}
 use Rattle.times.specs.declared.Nanos.{Nanos}
 use Rattle.times.specs.Codes.{greatestTime}
-use Rattle.frs_queue.specs.Queue.{messagesOf, placeOf}
+use Rattle.messages.specs.Messages.{frsAllowed}
+use Rattle.frs_queue.specs.Queue.{placeOf, reasonIn}
 use Rattle.readiness.specs.declared.Cause.{Cause}
 use Rattle.readiness.specs.declared.Cause.the-variants.{LinkUp, Flr, D3hot}
 use Rattle.readiness.specs.declared.Phase.{Phase}
@@ -19,7 +21,7 @@ use Rattle.readiness.specs.declared.Setup.{Setup}
 use Rattle.readiness.specs.declared.Dev.{Dev}
 use Rattle.readiness.specs.Status.{ready, allReady}
 use Rattle.records.specs.State.{State, statusAt}
-use Rattle.records.specs.CardRecords.{clockEnd}
+use Rattle.times.specs.Moments.{clockEnd}
 
 -- a slot's phase
 abbrev pub phaseAt : State → ℕ → Phase
@@ -48,21 +50,19 @@ abbrev pub soundStatus : Dev → Status → Bool
 soundStatus d s = soundPhase (d .clock) (s .phase) && matchesLink (d .link) (s .phase)
 
 -- each of the card's slots
-unfoldable pub soundStatuses : (slots : ℕ) → Dev → List Status → Bool
-soundStatuses ℕ.zero d l = true
-soundStatuses (suc n) d l = soundStatuses n d l && soundStatus d (statusAt l n)
+abbrev pub soundStatuses : (slots : ℕ) → Dev → List Status → Bool
+soundStatuses slots d l = every slots λ i. soundStatus d (statusAt l i)
 
--- a live cell is below 2^20
+-- a live cell is below 2^20, and its reason is one that an FRS may have
 abbrev pub soundCell : ℕ → Bool
-soundCell v = ltb v 1048576
+soundCell v = ltb v 1048576 && frsAllowed (reasonIn v)
 
-unfoldable pub soundCells : (depth : ℕ) → (cells : List ℕ) → (start : ℕ) → Bool
-soundCells ℕ.zero cells start = true
-soundCells (suc n) cells start = soundCells n cells start && soundCell (getD cells (placeOf (length cells) start n) 0)
+abbrev pub soundCells : (depth : ℕ) → (cells : List ℕ) → (start : ℕ) → Bool
+soundCells depth cells start = every depth λ k. soundCell (getD cells (placeOf (length cells) start k) 0)
 
 -- a DRS isn't owed with the link down, nor with every slot Ready
-abbrev pub soundOwed : Dev → List Status → Bool
-soundOwed d l = not (d .owed) || (d .link && not (allReady l))
+abbrev pub soundOwed : Setup → Dev → List Status → Bool
+soundOwed setup d l = not (d .owed) || (d .link && not (allReady setup l))
 
 -- all of it
 unfoldable pub sound : Setup → State → Bool
@@ -75,7 +75,7 @@ sound setup s =
     && soundCells (q .depth) (s .cells) (q .start)
     && leb (d .control .signalling) 2
     && soundStatuses (setup .slots) d (s .statuses)
-    && soundOwed d (s .statuses)
+    && soundOwed setup d (s .statuses)
 
 -- nothing that 5 lists, point by point
 pub record Sound (setup : Setup) (s : State) : Type 0 where

@@ -6,10 +6,11 @@ use lib.ListN.{getD, set}
 use Rattle.frs_queue.specs.declared.Tally.{Tally}
 use Rattle.registers.specs.declared.Kind.{Kind}
 use Rattle.registers.specs.declared.Kind.the-variants.{Endpoint}
+use Rattle.readiness.specs.declared.Slot.{Slot}
 use Rattle.readiness.specs.declared.Status.{Status}
 use Rattle.readiness.specs.declared.Setup.{Setup}
 use Rattle.readiness.specs.declared.Dev.{Dev}
-use Rattle.readiness.specs.Status.{ready}
+use Rattle.readiness.specs.Status.{ready, entryOf}
 use Rattle.readiness.specs.Root.{Root}
 use Rattle.readiness.specs.Settle.{Scene}
 
@@ -31,13 +32,12 @@ statusAt l slot = getD l slot ready
 abbrev pub wordPlace : (slot word : ℕ) → ℕ
 wordPlace slot word = slot * 64 + word
 
--- what a slot holds, which selects the attributes of its words
-abbrev pub kindOf : Setup → (slot : ℕ) → Kind
-kindOf setup slot = Endpoint
+-- what a slot holds, which selects the attributes of its words: by its entry in the set-up
+unfoldable pub kindOfEntry : Slot → Kind
+kindOfEntry entry = Endpoint
 
--- the kind of every slot of the card
-abbrev pub cardKind : Setup → Kind
-cardKind setup = Endpoint
+abbrev pub slotKind : Setup → (slot : ℕ) → Kind
+slotKind setup slot = kindOfEntry (entryOf setup slot)
 
 -- the root port of a state, with what the record has brought so far
 abbrev pub rootOf : State → Tally → Root

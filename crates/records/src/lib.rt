@@ -1,5 +1,6 @@
 // The thirteen records and the port state: their types, and in specs/ what each record does to the device and how it is answered.
-
+ghost use mathlib.Core.Path.{_≡_};
+ghost use Rattle.records.specs.Blank.{blankPort};
 use frs_queue::Queue;
 use frs_queue::Tally;
 use messages::Message;
@@ -137,4 +138,16 @@ pub struct Port {
     pub carried: [u8; 16],
     pub carried_len: usize,
     pub broken: bool,
+}
+
+// The blank port: nothing carried or broken.
+pub fn blank_port() -> Port
+    ensures { λ r. ⌜ r ≡ blankPort ⌝ }
+{
+    Port {
+        dev: readiness::blank_dev(),
+        carried: [0; 16],
+        carried_len: 0,
+        broken: false,
+    }
 }

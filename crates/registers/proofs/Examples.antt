@@ -2,10 +2,11 @@
 -- Assumes nothing.
 use mathlib.Core.Path.{_≡_, refl}
 use mathlib.Core.Bool.{true, false}
+use mathlib.Core.List.{[], _∷_}
 use Rattle.bits.specs.Bits.{bit, number, word}
 use Rattle.registers.specs.declared.Kind.the-variants.{Endpoint}
-use Rattle.registers.specs.Rows.{endpointRow, rowOf, readsZero, defaultMustBeZero, defaultAllowed, startsFlr}
-use Rattle.registers.specs.Words.{laneMask, readWord, writeBit, writeWord, resetBit, linkReset, flrReset, hardwareSet}
+use Rattle.registers.specs.Rows.{endpointRow, rowOf, readsZero, defaultMustBeZero, checkedWords, defaultAllowed, flrCapabilityWord, startsFlr}
+use Rattle.registers.specs.Words.{laneMask, readWord, writeBit, writeWord, startsD3hot, resetBit, linkReset, flrReset, hardwareSet}
 use Rattle.registers.proofs.Rules.{noBits}
 
 -- ---- rows
@@ -125,7 +126,28 @@ pub hardware-status : hardwareSet Endpoint 1 0x00100007 0xFFFFFFFF ≡ 0xF910000
 unfolding hardwareSet word number rowOf endpointRow bit
 hardware-status = refl
 
--- ---- the start of an FLR, and defaults
+-- ---- the way from D3hot, the start of an FLR, and defaults
+
+-- PowerState goes from 3 to 0, in 44h
+pub d3hot-starts : startsD3hot Endpoint 0x11 0x0000010B 0x00000108 ≡ true
+unfolding startsD3hot
+d3hot-starts = refl
+
+pub d3hot-other-word : startsD3hot Endpoint 0x1E 0x0000010B 0x00000108 ≡ false
+unfolding startsD3hot
+d3hot-other-word = refl
+
+pub d3hot-not-from-0 : startsD3hot Endpoint 0x11 0x00000108 0x00000108 ≡ false
+unfolding startsD3hot
+d3hot-not-from-0 = refl
+
+pub d3hot-not-to-3 : startsD3hot Endpoint 0x11 0x0000010B 0x0000000B ≡ false
+unfolding startsD3hot
+d3hot-not-to-3 = refl
+
+-- 74h says FLR capable
+pub flr-capability-word : flrCapabilityWord Endpoint ≡ 0x1D
+flr-capability-word = refl
 
 pub flr-starts : startsFlr Endpoint 0x1E 0x00008000 2 0x10000000 ≡ true
 unfolding startsFlr bit
@@ -142,6 +164,10 @@ flr-not-capable = refl
 pub flr-other-bit : startsFlr Endpoint 0x1E 0xFFFF7FFF 15 0x10000000 ≡ false
 unfolding startsFlr bit
 flr-other-bit = refl
+
+-- the defaults of 44h and 78h are checked
+pub words-checked : checkedWords Endpoint ≡ 0x11 ∷ 0x1E ∷ []
+words-checked = refl
 
 pub default-device-control : defaultAllowed Endpoint 0x1E 0x00200000 ≡ false
 unfolding defaultAllowed defaultMustBeZero word number bit

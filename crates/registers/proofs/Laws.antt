@@ -1,11 +1,12 @@
 -- What follows of the attributes and of the operations on one word, for every kind, word and value.
 -- Assumes nothing.
 use mathlib.Core.Path.{_≡_, refl, sym, ap, _∙_, subst}
-use mathlib.Core.Bool.{Bool, true, false, not, _&&_, _||_}
+use mathlib.Core.Bool.{Bool, true, false, not, _&&_, _||_, and-true, and-false}
 use mathlib.Core.Logic.{_⊎_, ⊎-elim}
 use Prim.Native.Nat.{ℕ, zero, suc, _/_, _%_, _<_, _≤_}
 use native.Mathlib.Omega.{arith}
 use lib.Dec.{T, eqb, ltb}
+use lib.ListN.{getD}
 use borrow.Author.Tests.{eq-eqb, ne-eqb, eqb-true, ltb-true, ltb-false, le-ltb}
 use Rattle.bits.specs.Bits.{bit, word, enabled}
 use Rattle.bits.proofs.Bits.{bit-none, bit-low, bit-word, word-ext, word-none, low-ext}
@@ -13,7 +14,7 @@ use Rattle.bits.proofs.Tests.{all, all-at, truth, both-left, both-right}
 use Rattle.registers.specs.declared.Row.{Row}
 use Rattle.registers.specs.declared.Kind.{Kind}
 use Rattle.registers.specs.declared.Kind.the-variants.{Endpoint}
-use Rattle.registers.specs.Rows.{rowOf, endpointRow, isW, isC, isS, isK, lawful, readsZero, defaultMustBeZero, defaultAllowed, startsFlr}
+use Rattle.registers.specs.Rows.{rowOf, endpointRow, isW, isC, isS, isK, lawful, pmcsr, deviceControl, readsZero, defaultMustBeZero, checkedWords, defaultAllowed, startsFlr}
 use Rattle.registers.specs.Words.{laneMask, powerState, stays, heldBit, readWord, writeBit, writeWord, resetBit, linkReset, flrReset, hardwareSet}
 use Rattle.registers.proofs.Rules.{every-kind, noBits, row-past}
 
@@ -275,11 +276,11 @@ reads-zero-fixed kind i k h =
     ] in
     by (ltb i 64) refl
 
-plain : (b : Bool) → (b && true) ≡ b
-plain = truth 1 _ _ tt
-
-none : (b : Bool) → (b && false) ≡ false
-none = truth 1 _ _ tt
+-- a default of any word but those that are checked may have any bit
+pub others-unchecked : (kind : Kind) (i : ℕ) → (i ≡ getD (checkedWords kind) 0 0 → ⊥) → (i ≡ getD (checkedWords kind) 1 0 → ⊥)
+    → defaultMustBeZero kind i ≡ 0
+unfolding defaultMustBeZero
+others-unchecked Endpoint i p d = rw (ne-eqb i deviceControl d, ne-eqb i pmcsr p) refl
 
 -- a default is allowed where it has none of the bits that must be 0, and only there
 pub default-allowed-clear : (kind : Kind) (i default k : ℕ) → k < 32 → defaultAllowed kind i default ≡ true → bit (defaultMustBeZero kind i) k ≡ true
@@ -287,7 +288,7 @@ pub default-allowed-clear : (kind : Kind) (i default k : ℕ) → k < 32 → def
 unfolding defaultAllowed
 default-allowed-clear kind i default k h e m =
     let w : word (λ k. bit default k && bit (defaultMustBeZero kind i) k) ≡ 0 = eqb-true _ 0 e in
-    sym (plain (bit default k)) ∙ ap (λ (b : Bool). bit default k && b) (sym m) ∙ sym (bit-word (λ k. bit default k && bit (defaultMustBeZero kind i) k) k h)
+    sym (and-true (bit default k)) ∙ ap (λ (b : Bool). bit default k && b) (sym m) ∙ sym (bit-word (λ k. bit default k && bit (defaultMustBeZero kind i) k) k h)
     ∙ ap (λ (n : ℕ). bit n k) w ∙ bit-none k
 
 pub default-clear-allowed : (kind : Kind) (i default : ℕ)
@@ -296,8 +297,8 @@ unfolding defaultAllowed
 default-clear-allowed kind i default f =
     let at : (k : ℕ) → k < 32 → (b : Bool) → bit (defaultMustBeZero kind i) k ≡ b → (bit default k && b) ≡ false =
     λ k h. elim [
-      | true ↦ λ e. plain (bit default k) ∙ f k h e
-      | false ↦ λ e. none (bit default k)
+      | true ↦ λ e. and-true (bit default k) ∙ f k h e
+      | false ↦ λ e. and-false (bit default k)
     ] in
     eq-eqb _ 0 (word-none (λ k h. at k h (bit (defaultMustBeZero kind i) k) refl))
 

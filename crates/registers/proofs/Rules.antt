@@ -14,7 +14,7 @@ use Rattle.bits.proofs.Tests.{all, all-at, and-left, and-right, truth}
 use Rattle.registers.specs.declared.Row.{Row}
 use Rattle.registers.specs.declared.Kind.{Kind}
 use Rattle.registers.specs.declared.Kind.the-variants.{Endpoint}
-use Rattle.registers.specs.Rows.{Line, line, endpointTable, find, endpointRow, rowOf, masks, startOf, column, pmcsr, deviceControl, deviceZeros, powerStateBits, flrByte, initiateFlr, flrCapable, readsZero, defaultMustBeZero, startsFlr}
+use Rattle.registers.specs.Rows.{Line, line, endpointTable, find, endpointRow, rowOf, masks, startOf, sameKind, column, pmcsr, deviceCapabilities, deviceControl, deviceZeros, powerStateBits, flrByte, initiateFlr, flrCapable, readsZero, defaultMustBeZero, checkedWords, flrCapabilityWord, startsFlr}
 use Rattle.registers.specs.Words.{writeBit, resetBit, readWord, linkMask, flrMask, withDefaults, linkReset, flrReset}
 
 -- ---- kinds
@@ -22,6 +22,12 @@ use Rattle.registers.specs.Words.{writeBit, resetBit, readWord, linkMask
 -- a test that every kind passes
 pub every-kind : (test : Kind → Bool) → T (test Endpoint) → (kind : Kind) → T (test kind)
 every-kind test t Endpoint = t
+
+pub same-kind : (a b : Kind) → sameKind a b ≡ true → a ≡ b
+same-kind Endpoint Endpoint e = refl
+
+pub kind-same : (kind : Kind) → sameKind kind kind ≡ true
+kind-same Endpoint = refl
 
 -- ---- rows
 
@@ -93,6 +99,12 @@ reads-zero-at Endpoint i here e = rw e refl
 pub must-be-zero-at : (kind : Kind) (i : ℕ) (device pm : Bool) → eqb i deviceControl ≡ device → eqb i pmcsr ≡ pm → cond device deviceZeros (cond pm powerStateBits 0) ≡ defaultMustBeZero kind i
 unfolding defaultMustBeZero
 must-be-zero-at Endpoint i device pm e d = rw (e, d) refl
+
+pub checked-at : (kind : Kind) → pmcsr ∷ deviceControl ∷ [] ≡ checkedWords kind
+checked-at Endpoint = refl
+
+pub capabilities-at : (kind : Kind) → deviceCapabilities ≡ flrCapabilityWord kind
+capabilities-at Endpoint = refl
 
 pub starts-flr-at : (kind : Kind) (i value enables default : ℕ) (here lane wanted : Bool) → eqb i deviceControl ≡ here → bit enables flrByte ≡ lane → bit value initiateFlr ≡ wanted
     → (here && lane && wanted && bit default flrCapable) ≡ startsFlr kind i value enables default

@@ -57,6 +57,10 @@ masks = flat (rowOf Endpoint) 0 64
 abbrev pub startOf : Kind → ℕ
 startOf Endpoint = 0
 
+-- two kinds are the same: each has its own place in the table
+abbrev pub sameKind : (a b : Kind) → Bool
+sameKind a b = eqb (startOf a) (startOf b)
+
 -- a row's masks in order
 abbrev pub column : ℕ → Row → ℕ
 column j r = getD (r .w ∷ r .c ∷ r .s ∷ r .k ∷ []) j 0
@@ -78,9 +82,12 @@ isK kind i k = bit (rowOf kind i .k) k
 abbrev pub lawful : (w c s k : Bool) → Bool
 lawful w c s k = not (w && c) && (not s || w || c) && (not k || w || c) && not (s && k)
 
--- PMCSR, and device control and status, as word numbers
+-- the words that have a name, as word numbers: PMCSR at 44h, device capabilities at 74h, device control and status at 78h
 abbrev pub pmcsr : ℕ
 pmcsr = 0x44 / 4
+
+abbrev pub deviceCapabilities : ℕ
+deviceCapabilities = 0x74 / 4
 
 abbrev pub deviceControl : ℕ
 deviceControl = 0x78 / 4
@@ -101,20 +108,30 @@ readsZero Endpoint i = cond (eqb i deviceControl) deviceZeros 0
 unfoldable pub defaultMustBeZero : Kind → ℕ → ℕ
 defaultMustBeZero Endpoint i = cond (eqb i deviceControl) deviceZeros (cond (eqb i pmcsr) powerStateBits 0)
 
+-- the words that have such bits: 44h and 78h
+abbrev pub checkedWords : Kind → List ℕ
+checkedWords Endpoint = pmcsr ∷ deviceControl ∷ []
+
 -- no such bit is set in the default of word i
 unfoldable pub defaultAllowed : Kind → (i default : ℕ) → Bool
 defaultAllowed kind i default = eqb (word λ k. bit default k && bit (defaultMustBeZero kind i) k) 0
 
--- where an FLR is asked for in a write to 78h: its byte, and its bit of the data; and the bit of the default word 74h for FLR capable
+-- where an FLR is asked for in a write to 78h: its byte, and its bit of the data
 abbrev pub flrByte : ℕ
 flrByte = 1
 
 abbrev pub initiateFlr : ℕ
 initiateFlr = 15
 
+-- the word whose default says FLR capable, and its bit there: bit 28 of 74h
+abbrev pub flrCapabilityWord : Kind → ℕ
+flrCapabilityWord Endpoint = deviceCapabilities
+
 abbrev pub flrCapable : ℕ
 flrCapable = 28
 
--- a write that starts an FLR: of 78h with byte 1 enabled and data bit 15 set, where bit 28 of the default word 74h is set
-unfoldable pub startsFlr : Kind → (i value enables default : ℕ) → Bool
-startsFlr Endpoint i value enables default = eqb i deviceControl && bit enables flrByte && bit value initiateFlr && bit default flrCapable
+-- a write that starts an FLR: of 78h with byte 1 enabled and data bit 15 set, where bit 28 of the default word 74h is set;
+-- `capabilities` is the default of that word
+unfoldable pub startsFlr : Kind → (i value enables capabilities : ℕ) → Bool
+startsFlr Endpoint i value enables capabilities =
+    eqb i deviceControl && bit enables flrByte && bit value initiateFlr && bit capabilities flrCapable

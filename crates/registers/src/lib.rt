@@ -1,8 +1,9 @@
 // The registers in configuration space: the attributes of each word, and what a read, a write, a reset and the hardware do to one word.
 ghost use mathlib.Core.Path.{_≡_};
-ghost use Prim.Native.Nat.{_+_, _≤_};
-ghost use Rattle.registers.specs.Rows.{masks, startOf, rowOf, readsZero, defaultMustBeZero, defaultAllowed, startsFlr};
-ghost use Rattle.registers.specs.Words.{laneMask, powerState, held as heldBits, readWord, writeWord, linkMask, flrMask, withDefaults, linkReset, flrReset, hardwareSet};
+ghost use Prim.Native.Nat.{_+_, _<_, _≤_};
+ghost use lib.ListN.{getD};
+ghost use Rattle.registers.specs.Rows.{masks, startOf, sameKind, rowOf, readsZero, defaultMustBeZero, checkedWords, defaultAllowed, flrCapabilityWord, startsFlr};
+ghost use Rattle.registers.specs.Words.{laneMask, powerState, held as heldBits, readWord, writeWord, startsD3hot, linkMask, flrMask, withDefaults, linkReset, flrReset, hardwareSet};
 
 // What a slot holds: it selects the attributes of its words.
 pub enum Kind {
@@ -21,17 +22,19 @@ pub struct Row {
 // The table: W, C, S, K of each of the 64 words of each kind.
 pub type Masks = [u32; 256];
 
-// PMCSR at 44h, and device control and status at 78h, as word numbers.
-const PMCSR: usize = 17;
+// PMCSR at 44h, device capabilities at 74h, and device control and status at 78h, as word numbers.
+pub const PMCSR: usize = 17;
 
-const DEVICE_CONTROL: usize = 30;
+pub const DEVICE_CAPABILITIES: usize = 29;
+
+pub const DEVICE_CONTROL: usize = 30;
 
 // Bits 15 (Initiate FLR) and 21 (Transactions Pending) of 78h; bits 1:0 (PowerState) of 44h.
 const DEVICE_ZEROS: u32 = 0x00208000;
 
 const POWER_STATE: u32 = 0x00000003;
 
-// A write to 78h that asks for an FLR: byte 1 of the enables and bit 15 of the data; and bit 28 of the default word 74h, FLR capable.
+// A write to 78h that asks for an FLR: byte 1 of the enables and bit 15 of the data; and bit 28 of 74h, FLR capable.
 const FLR_BYTE: u8 = 0x02;
 
 const INITIATE_FLR: u32 = 0x00008000;
@@ -52,6 +55,13 @@ fn start(kind: Kind) -> usize
     match kind {
         Kind::Endpoint => 0,
     }
+}
+
+// Whether two slots hold the same.
+pub fn same_kind(a: Kind, b: Kind) -> bool
+    ensures { λ r. ⌜ r ≡ sameKind a b ⌝ }
+{
+    start(a) == start(b)
 }
 
 // The row of word i, in the lent table; no word above 63 has attributes.
@@ -102,6 +112,16 @@ pub fn default_must_be_zero(kind: Kind, i: usize) -> u32
     }
 }
 
+// The words that have such bits.
+pub fn checked_words(kind: Kind) -> [usize; 2]
+    ensures { λ r. ⌜ r ≡ checkedWords kind ⌝ }
+    ensures { λ r. ⌜ (getD r 0 0 < 64) × (getD r 1 0 < 64) ⌝ }
+{
+    match kind {
+        Kind::Endpoint => [PMCSR, DEVICE_CONTROL],
+    }
+}
+
 // Refusal 4, for one word: the default has none of the bits that must be 0.
 pub fn default_allowed(kind: Kind, i: usize, default: u32) -> bool
     ensures { λ r. ⌜ r ≡ defaultAllowed kind i default ⌝ }
@@ -109,9 +129,18 @@ pub fn default_allowed(kind: Kind, i: usize, default: u32) -> bool
     default & default_must_be_zero(kind, i) == 0
 }
 
-// Whether a write of `value` to word i starts an FLR; `default_74h` is the slot's default word 74h.
-pub fn starts_flr(kind: Kind, i: usize, value: u32, enables: u8, default_74h: u32) -> bool
-    ensures { λ r. ⌜ r ≡ startsFlr kind i value enables «default_74h» ⌝ }
+// The word whose default says FLR capable.
+pub fn flr_capability_word(kind: Kind) -> usize
+    ensures { λ r. ⌜ (r ≡ flrCapabilityWord kind) × (r < 64) ⌝ }
+{
+    match kind {
+        Kind::Endpoint => DEVICE_CAPABILITIES,
+    }
+}
+
+// Whether a write of `value` to word i starts an FLR; `capabilities` is the slot's default of that word.
+pub fn starts_flr(kind: Kind, i: usize, value: u32, enables: u8, capabilities: u32) -> bool
+    ensures { λ r. ⌜ r ≡ startsFlr kind i value enables capabilities ⌝ }
 {
     match kind {
         Kind::Endpoint => {
@@ -124,7 +153,7 @@ pub fn starts_flr(kind: Kind, i: usize, value: u32, enables: u8, default_74h: u3
             if value & INITIATE_FLR == 0 {
                 return false;
             }
-            default_74h & FLR_CAPABLE != 0
+            capabilities & FLR_CAPABLE != 0
         }
     }
 }
@@ -134,6 +163,13 @@ pub fn power_state(live: u32) -> u32
     ensures { λ r. ⌜ r ≡ powerState live ⌝ }
 {
     live & 3
+}
+
+// Whether a write to word i takes PowerState from 3 to 0: the word before it and after it.
+pub fn starts_d3hot(kind: Kind, i: usize, old: u32, new: u32) -> bool
+    ensures { λ r. ⌜ r ≡ startsD3hot kind i old new ⌝ }
+{
+    (i == PMCSR) & (power_state(old) == 3) & (power_state(new) == 0)
 }
 
 // All eight bits of each byte lane that is enabled. Only the four low bits of `enables` count.

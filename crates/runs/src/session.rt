@@ -1,18 +1,16 @@
 // A trace that is fed: what goes from one call of the bench to the next.
 use desk::trace_file::Fault;
-use desk::trace_file::size_of;
 use feed::Fed;
-use frs_queue::Queue;
+use gather::gathering::size_of;
 use line_text::numbers::at_most;
 use line_text::numbers::byte_at;
 use line_text::numbers::plus;
 use line_text::numbers::wide;
-use readiness::Control;
-use readiness::Dev;
-use readiness::Phase;
 use readiness::Setup;
 use readiness::Status;
+use readiness::all_down;
 use records::Port;
+use records::blank_port;
 use set_up::SetUp;
 
 // The bench, and how far the trace is: whether there is more to feed, the last call's number and counts, the byte that it stopped
@@ -30,47 +28,6 @@ pub struct Session {
 }
 
 // ---- Before set-up
-
-fn blank_queue() -> Queue {
-    Queue {
-        start: 0,
-        depth: 0,
-        received: false,
-        overflow: false,
-    }
-}
-
-fn blank_control() -> Control {
-    Control {
-        visibility: false,
-        frs_interrupt: false,
-        signalling: 0,
-    }
-}
-
-fn blank_dev() -> Dev {
-    Dev {
-        clock: times::nanos_of(0),
-        link: false,
-        owed: false,
-        drs_received: false,
-        control: blank_control(),
-        queue: blank_queue(),
-    }
-}
-
-fn blank_port() -> Port {
-    Port {
-        dev: blank_dev(),
-        carried: [0u8; 16],
-        carried_len: 0,
-        broken: false,
-    }
-}
-
-fn all_down() -> [Status; 32] {
-    [Status { phase: Phase::Down }; 32]
-}
 
 fn session_of(made: SetUp) -> Session {
     let port = made.port;

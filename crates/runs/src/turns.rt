@@ -15,8 +15,8 @@ use desk::trace_file::nothing_held;
 use desk::trace_file::nothing_read;
 use desk::trace_file::passed;
 use desk::trace_file::read_piece;
-use desk::trace_file::size_of;
 use desk::trace_file::take;
+use gather::gathering::size_of;
 use line_text::numbers::at_most;
 use line_text::numbers::wide;
 use readiness::Setup;
@@ -175,7 +175,7 @@ fn put_call(
     if after.number == 31 {
         return put_unknown(printed, at, offset, bytes[0]);
     }
-    let item = device::decoding::decode(bytes);
+    let item = gather::decoding::decode(bytes);
     put_run(printed, at, offset, clock, item, answer)
 }
 

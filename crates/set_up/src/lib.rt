@@ -1,16 +1,17 @@
 // Set-up by value over the lent slices, and the refusals of a call.
 pub mod refusing; // refusals 1 to 4, and the carried bytes' part of 5
-mod lending; // what a set-up starts with
+mod lending; // the queue cells
 
 ghost use mathlib.Core.Path.{_≡_};
 ghost use Rattle.demand3.specs.Held.{held, lentOf};
 ghost use Rattle.demand3.specs.SettingUp.{setsUp};
 ghost use Rattle.set_up.specs.Prepared.{prepared};
 use lending::clear_cells;
-use lending::fresh_port;
 use readiness::Setup;
 use readiness::Status;
+use readiness::blank_dev;
 use records::Port;
+use records::blank_port;
 use refusing::set_up_refusal;
 
 // What set-up gives, beside the lent slices.
@@ -44,7 +45,7 @@ pub fn set_up(
     clear_cells(cells);
     SetUp {
         number: 0,
-        port: fresh_port(),
-        statuses: settle::reset_statuses(setup, statuses),
+        port: blank_port(),
+        statuses: settle::reset_statuses(setup, blank_dev(), statuses),
     }
 }

@@ -3,12 +3,14 @@ ghost use mathlib.Core.Path.{_≡_};
 ghost use mathlib.Core.List.{List};
 ghost use Prim.Native.Nat.{ℕ, _+_, _*_, _≤_, _<_};
 ghost use lib.ListN.{length, take};
+ghost use Rattle.registers.specs.Rows.{checkedWords};
 ghost use Rattle.readiness.specs.Phases.{statusesIn};
 ghost use Rattle.trace.specs.Format.{begun};
 ghost use Rattle.trace.specs.Lent.{refusalOr31};
 ghost use Rattle.demand3.specs.Held.{held};
-ghost use Rattle.demand3.specs.Refusals.{lengthsFit, queueFits, codesAllowed, allCodesAllowed, checkedWords, wordsAllowed, allDefaultsAllowed, firstFailed, setUpTests, soundCarried};
+ghost use Rattle.demand3.specs.Refusals.{lengthsFit, queueFits, codesAllowed, allCodesAllowed, wordsAllowed, allDefaultsAllowed, firstFailed, setUpTests, soundCarried};
 ghost use Rattle.demand3.specs.Feeding.{bench};
+use device::kinds::kind_of_entry;
 use device::soundness::is_sound;
 use gather::gathering::size_of;
 use readiness::Setup;
@@ -77,17 +79,20 @@ fn all_codes_allowed(setup: Setup) -> bool
     true
 }
 
-// A slot's default words 44h and 78h have none of the bits set that must be 0.
+// A slot's default words that are looked at have none of the bits set that must be 0.
 fn words_allowed(kind: Kind, defaults: &[u32], slot: usize) -> bool
     requires { ⌜ (slot < 32) × (slot * 64 + 64 ≤ length (now defaults)) ⌝ }
     ensures { λ r. ⌜ r ≡ wordsAllowed kind (now (defaults .entry)) slot (checkedWords kind) ⌝ }
 {
-    let pmcsr = slot * 64 + 0x11;
-    let device_control = slot * 64 + 0x1E;
-    if !registers::default_allowed(kind, 0x11, defaults[pmcsr]) {
+    let words = registers::checked_words(kind);
+    let first = words[0];
+    let second = words[1];
+    let first_at = slot * 64 + first;
+    let second_at = slot * 64 + second;
+    if !registers::default_allowed(kind, first, defaults[first_at]) {
         return false;
     }
-    registers::default_allowed(kind, 0x1E, defaults[device_control])
+    registers::default_allowed(kind, second, defaults[second_at])
 }
 
 // The same for every slot.
@@ -97,7 +102,8 @@ fn all_defaults_allowed(setup: Setup, defaults: &[u32]) -> bool
 {
     let mut i: usize = 0;
     while i < setup.slots {
-        if !words_allowed(Kind::Endpoint, defaults, i) {
+        let entry = setup.entries[i];
+        if !words_allowed(kind_of_entry(entry), defaults, i) {
             return false;
         }
         i += 1;

@@ -1,11 +1,16 @@
--- The slot that becomes Ready next.
+-- One slot that is due or not, and the first of all that are due.
 -- Assumes nothing.
-use Prim.Native.Nat.{ℕ, zero, suc, _+_, _≤_, _<_}
+use Prim.Native.Nat.{ℕ, _≤_, _<_}
 use native.Mathlib.Omega.{arith}
 use mathlib.Core.Path.{_≡_, refl, sym, ap, subst, _∙_}
 use mathlib.Core.Bool.{Bool, true, false, cond}
-use mathlib.Core.List.{List, [], _∷_}
-use lib.ListN.{length, getD, set}
+use mathlib.Core.List.{List, [], _∷_, List·Memᴰ, List·Memᴰ·head, List·Memᴰ·tail, List·Memᴰ·cases-cons}
+use mathlib.Core.Logic.{_≢_, ⊎-elim}
+use lib.Dec.{eqb, ltb}
+use lib.ListN.{length, getD, set, List·getD-eq-default}
+use lib.Seq.{getD-set-same, getD-set-other}
+use borrow.Author.Tests.{eqb-true, eqb-false, ltb-true, ltb-false}
+use Rattle.bits.proofs.Lists.{getD-any}
 use Rattle.times.specs.declared.Nanos.{Nanos}
 use Rattle.readiness.specs.declared.Cause.{Cause}
 use Rattle.readiness.specs.declared.Phase.{Phase}
@@ -16,9 +21,10 @@ use Rattle.settle.specs.declared.Due.{Due}
 use Rattle.settle.specs.declared.Due.the-variants.{Nothing, At}
 use Rattle.readiness.specs.Status.{ready}
 use Rattle.readiness.specs.Root.{frsArrive}
-use Rattle.readiness.specs.Events.{Event, reached, dueEvent, comesFirst, insert, insertAll, dueFrom, due, frsOfSlot}
-use Rattle.settle.specs.Next.{firstDue, below, nextSlot}
-use Rattle.readiness.proofs.Order.{Each, Awaited, dueFrom-sound}
+use Rattle.readiness.specs.Events.{Event, reached, dueEvent, due, frsOfSlot}
+use Rattle.settle.specs.Next.{firstDue}
+use Rattle.readiness.proofs.Order.{each-mem}
+use Rattle.readiness.proofs.Laws.{InOrder, due-order, due-unique}
 use Rattle.readiness.specs.Settle.{SlotScene, slotHappens, slotSettles}
 
 -- nothing is due where there is no first
@@ -58,124 +64,63 @@ slot-readies bus entry slot x i cause t e = go (x .status .phase) e
     go Ready q = let z : _≡_ {A = ℕ} 0 1 = cc in absurd (omega arith)
     go (Pending d u) q = at (reached (x .root .dev .clock) u) d u q
 
--- the first of the events that are due, taken: the slot is there, and once it is Ready the others are due
-pub record Taken (j : ℕ) (clock : Nanos) (l : List Status) (e : Event) (es : List Event) : Type 0 where
-  pub at : ℕ
-  pub is : e .slot ≡ j + at
-  pub within : at < length l
-  pub others : es ≡ dueFrom j clock (set l at ready)
+-- ---- the first of the events that are due, and the others
 
--- with one slot more in front
-module _ (j : ℕ) (clock : Nanos) (s : Status) (l : List Status) (ih : (e : Event) (es : List Event) → dueFrom (suc j) clock l ≡ e ∷ es → Taken (suc j) clock l e es) (e : Event) (es : List Event) where
-  -- it isn't due
-  taken-later : dueEvent clock j (s .phase) ≡ [] → dueFrom (suc j) clock l ≡ e ∷ es → Taken j clock (s ∷ l) e es
-  unfolding dueFrom insertAll
-  taken-later p r =
-      let t = ih e es r in
-      record {
-        at = suc (t .at);
-        is = omega (arith, t .is);
-        within = omega (arith, t .within);
-        others = t .others ∙ ap (λ (h : List Event). insertAll h (dueFrom (suc j) clock (set l (t .at) ready))) (sym p);
-      }
+never-pending : (c : Cause) (t : Nanos) → Ready ≡ Pending c t → ⊥
+never-pending c t q = let z : _≡_ {A = ℕ} 0 1 = cc in omega arith
 
-  -- it is the first
-  taken-here : (c : Cause) (t : Nanos) → e ≡ record { slot = j; cause = c; time = t } → es ≡ dueFrom (suc j) clock l → Taken j clock (s ∷ l) e es
-  unfolding dueFrom insertAll
-  taken-here c t p r = record { at = 0; is = omega (arith, ap (λ (v : Event). v .slot) p); within = omega arith; others = r }
+-- a slot that is Pending is there
+pending-there : (l : List Status) (i : ℕ) (c : Cause) (t : Nanos) → getD l i ready .phase ≡ Pending c t → i < length l
+pending-there l i c t e = by (ltb i (length l)) refl
+  where
+    by : (b : Bool) → ltb i (length l) ≡ b → i < length l
+    by true h = ltb-true i (length l) h
+    by false h = absurd (never-pending c t (sym (ap (λ (s : Status). s .phase) (List·getD-eq-default l ready (ltb-false i (length l) h))) ∙ e))
 
-  -- it comes after the first
-  taken-after : (c : Cause) (t : Nanos) (r : List Event) → dueEvent clock j (s .phase) ≡ (record { slot = j; cause = c; time = t } ∷ []) → dueFrom (suc j) clock l ≡ e ∷ r → es ≡ insert (record { slot = j; cause = c; time = t }) r → Taken j clock (s ∷ l) e es
-  unfolding dueFrom insertAll
-  taken-after c t r p h i =
-      let k = ih e r h in
-      record {
-        at = suc (k .at);
-        is = omega (arith, k .is);
-        within = omega (arith, k .within);
-        others = i ∙ ap (insert (record { slot = j; cause = c; time = t })) (k .others) ∙ ap (λ (h : List Event). insertAll h (dueFrom (suc j) clock (set l (k .at) ready))) (sym p);
-      }
-
-  taken-among : (c : Cause) (t : Nanos) → dueEvent clock j (s .phase) ≡ (record { slot = j; cause = c; time = t } ∷ []) → (r : List Event) → dueFrom (suc j) clock l ≡ r → insert (record { slot = j; cause = c; time = t }) r ≡ e ∷ es → Taken j clock (s ∷ l) e es
-  unfolding insert
-  taken-among c t p [] h i = taken-here c t (cc) (cc)
-  taken-among c t p (f ∷ r) h i = pick (comesFirst t (f .time)) i
+module _ (l : List Status) (k : ℕ) (there : k < length l) where
+  -- the slots that are Pending once slot k is Ready: those that were, but for slot k
+  still-pending : (j : ℕ) (c : Cause) (t : Nanos) → getD (set l k ready) j ready .phase ≡ Pending c t → (getD l j ready .phase ≡ Pending c t) × (j ≢ k)
+  still-pending j c t e = by (eqb j k) refl
     where
-      pick : (b : Bool) → cond b (record { slot = j; cause = c; time = t } ∷ f ∷ r) (f ∷ insert (record { slot = j; cause = c; time = t }) r) ≡ e ∷ es → Taken j clock (s ∷ l) e es
-      pick true i = taken-here c t (cc) (cc)
-      pick false i = let g : f ≡ e = cc in taken-after c t r p (h ∙ ap (λ (v : Event). v ∷ r) g) (cc)
+      by : (b : Bool) → eqb j k ≡ b → (getD l j ready .phase ≡ Pending c t) × (j ≢ k)
+      by true h =
+          let n = eqb-true j k h in
+          absurd (never-pending c t (sym (ap (λ (s : Status). s .phase) (ap (λ (i : ℕ). getD (set l k ready) i ready) n ∙ getD-set-same l k ready ready there)) ∙ e))
+      by false h =
+          let n = eqb-false j k h in
+          (sym (ap (λ (s : Status). s .phase) (getD-set-other l k j ready ready n)) ∙ e, n)
 
-  taken-cons : dueFrom j clock (s ∷ l) ≡ e ∷ es → Taken j clock (s ∷ l) e es
-  unfolding dueFrom insertAll
-  taken-cons q = go (s .phase) refl q
-    where
-      test : (c : Cause) (t : Nanos) (b : Bool) → dueEvent clock j (s .phase) ≡ cond b (record { slot = j; cause = c; time = t } ∷ []) [] → insertAll (cond b (record { slot = j; cause = c; time = t } ∷ []) []) (dueFrom (suc j) clock l) ≡ e ∷ es → Taken j clock (s ∷ l) e es
-      test c t true p q = taken-among c t p (dueFrom (suc j) clock l) refl q
-      test c t false p q = taken-later p q
+  stays-pending : (j : ℕ) (c : Cause) (t : Nanos) → getD l j ready .phase ≡ Pending c t → j ≢ k → getD (set l k ready) j ready .phase ≡ Pending c t
+  stays-pending j c t e n = ap (λ (s : Status). s .phase) (getD-set-other l k j ready ready n) ∙ e
 
-      go : (p : Phase) → s .phase ≡ p → insertAll (dueEvent clock j p) (dueFrom (suc j) clock l) ≡ e ∷ es → Taken j clock (s ∷ l) e es
-      go Down p q = taken-later (ap (dueEvent clock j) p) q
-      go Ready p q = taken-later (ap (dueEvent clock j) p) q
-      go (Pending c t) p q = test c t (reached clock t) (ap (dueEvent clock j) p) q
+-- the first: its slot is there, and was Pending; once it is Ready, the others are due
+pub record First (clock : Nanos) (l : List Status) (e : Event) (es : List Event) : Type 0 where
+  pub within : e .slot < length l
+  pub pends : getD l (e .slot) ready .phase ≡ Pending (e .cause) (e .time)
+  pub others : es ≡ due clock (set l (e .slot) ready)
 
-pub taken : (j : ℕ) (clock : Nanos) (l : List Status) (e : Event) (es : List Event) → dueFrom j clock l ≡ e ∷ es → Taken j clock l e es
-unfolding dueFrom
-taken j clock [] e es q = let z : _≡_ {A = ℕ} 0 1 = cc in absurd (omega arith)
-taken j clock (s ∷ l) e es q = taken-cons j clock s l (taken (suc j) clock l) e es q
-
--- the slot that the scan finds: it is there, its event comes first, and once it is Ready the others are due
-pub record Found (clock : Nanos) (l : List Status) (slot : ℕ) (cause : Cause) (t : Nanos) : Type 0 where
-  pub within : slot < length l
-  pub others : due clock l ≡ record { slot = slot; cause = cause; time = t } ∷ due clock (set l slot ready)
-
-pub found : (clock : Nanos) (l : List Status) (slot : ℕ) (cause : Cause) (t : Nanos) → firstDue (due clock l) ≡ At slot cause t → Found clock l slot cause t
-found clock l slot cause t q = go (due clock l) refl q
+pub first-due : (clock : Nanos) (l : List Status) (e : Event) (es : List Event) → due clock l ≡ e ∷ es → First clock l e es
+first-due clock l e es q = record { within = there; pends = pends; others = due-unique clock (set l (e .slot) ready) es (record { exactly = λ f. (sound f, complete f); once = whole .once .1; ordered = whole .ordered .1 }) }
   where
-    go : (r : List Event) → due clock l ≡ r → firstDue r ≡ At slot cause t → Found clock l slot cause t
-    go [] p q = let z : _≡_ {A = ℕ} 0 1 = cc in absurd (omega arith)
-    go (e ∷ es) p q =
-        let k = taken 0 clock l e es p in
-        let i : e .slot ≡ slot = cc in
-        let c : e .cause ≡ cause = cc in
-        let u : e .time ≡ t = cc in
-        let a : k .at ≡ slot = omega (arith, k .is) in
-        record {
-          within = omega (arith, k .within);
-          others = p ∙ (λ n. record { slot = i n; cause = c n; time = u n } ∷ es) ∙ ap (λ (r : List Event). record { slot = slot; cause = cause; time = t } ∷ r) (k .others ∙ ap (λ (n : ℕ). due clock (set l n ready)) a);
-        }
+    whole : InOrder clock l (e ∷ es)
+    whole = subst (InOrder clock l) q (due-order clock l)
 
-pub first-below : (clock : Nanos) (l : List Status) → below (length l) (firstDue (due clock l))
-first-below clock l = go (firstDue (due clock l)) refl
-  where
-    go : (d : Due) → firstDue (due clock l) ≡ d → below (length l) d
-    go Nothing q = tt
-    go (At slot cause t) q = found clock l slot cause t q .within
+    pends : getD l (e .slot) ready .phase ≡ Pending (e .cause) (e .time)
+    pends = whole .exactly e .0 (List·Memᴰ·head refl) .0
 
-getD-any : (l : List Status) (i : ℕ) (d e : Status) → i < length l → getD l i d ≡ getD l i e
-getD-any [] i d e h = absurd (omega arith)
-getD-any (s ∷ l) zero d e h = refl
-getD-any (s ∷ l) (suc i) d e h = getD-any l i d e (omega arith)
+    there : e .slot < length l
+    there = pending-there l (e .slot) (e .cause) (e .time) pends
 
-pub record Next (clock : Nanos) (l : List Status) (slot : ℕ) (d : Status) : Type 0 where
-  pub cause : Cause
-  pub time : Nanos
-  pub first : firstDue (due clock l) ≡ At slot cause time
-  pub pends : getD l slot d .phase ≡ Pending cause time
+    Waits : Event → Type 0
+    Waits f = (getD (set l (e .slot) ready) (f .slot) ready .phase ≡ Pending (f .cause) (f .time)) × (f .time .0 ≤ clock .0)
 
-pub some-next : (clock : Nanos) (l : List Status) (slot : ℕ) (d : Status) → length l ≤ 32 → slot ≡ nextSlot (firstDue (due clock l)) → slot < length l → Next clock l slot d
-some-next clock l slot d n e h = go (due clock l) refl e
-  where
-    go : (es : List Event) → due clock l ≡ es → slot ≡ nextSlot (firstDue es) → Next clock l slot d
-    go [] p q = absurd (omega arith)
-    go (f ∷ es) p q =
-        let a : Awaited 0 clock l f = first-awaited p in
-        let k : a .at ≡ slot = omega (arith, a .slot) in
-        record {
-          cause = f .cause;
-          time = f .time;
-          first = ap firstDue p ∙ ap (λ (j : ℕ). At j (f .cause) (f .time)) (sym q);
-          pends = ap (λ (s : Status). s .phase) (getD-any l slot d ready (omega arith)) ∙ ap (λ (j : ℕ). getD l j ready .phase) (sym k) ∙ a .pends;
-        }
-      where
-        first-awaited : due clock l ≡ f ∷ es → Awaited 0 clock l f
-        first-awaited p = (subst (Each (Awaited 0 clock l)) p (dueFrom-sound 0 clock l)) .0
+    sound : (f : Event) → List·Memᴰ f es → Waits f
+    sound f m =
+        let a = whole .exactly f .0 (List·Memᴰ·tail m) in
+        let n = each-mem (λ g. e .slot ≢ g .slot) f es (whole .once .0) m in
+        (stays-pending l (e .slot) there (f .slot) (f .cause) (f .time) (a .0) (λ r. n (sym r)), a .1)
+
+    complete : (f : Event) → Waits f → List·Memᴰ f es
+    complete f a =
+        let b = still-pending l (e .slot) there (f .slot) (f .cause) (f .time) (a .0) in
+        ⊎-elim (λ (r : f ≡ e). absurd (b .1 (ap (λ (g : Event). g .slot) r))) (λ (m : List·Memᴰ f es). m) (List·Memᴰ·cases-cons (whole .exactly f .1 (b .0, a .1)))

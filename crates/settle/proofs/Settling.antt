@@ -1,106 +1,157 @@
--- Settling, one slot after the other: the scan finds the next slot, and once it is Ready what is left to happen is the rest.
+-- Settling, one event after the other, in the order that is prepared once: the next event stands in the last place that is left; once it has happened,
+-- what is left to happen is the rest; and then the DRS is told where no slot waits.
 -- Assumes nothing.
 use Prim.Native.Nat.{ℕ, suc, _-_, _≤_, _<_}
 use native.Mathlib.Omega.{arith}
-use mathlib.Core.Path.{_≡_, refl, sym, ap, _∙_}
-use mathlib.Core.Bool.{Bool, true, false, cond}
+use mathlib.Core.Path.{_≡_, refl, sym, ap, ap₂, _∙_, subst}
+use mathlib.Core.Bool.{Bool, true, false, not, _&&_, _||_, cond}
 use mathlib.Core.List.{List, [], _∷_}
+use lib.Dec.{leb}
 use lib.ListN.{length, getD, set}
 use Rattle.times.specs.declared.Nanos.{Nanos}
 use Rattle.readiness.specs.declared.Cause.{Cause}
 use Rattle.readiness.specs.declared.Setup.{Setup}
-use Rattle.settle.specs.declared.Due.the-variants.{At}
-use Rattle.readiness.specs.declared.Phase.the-variants.{Pending}
+use Rattle.readiness.specs.declared.Phase.{Phase}
+use Rattle.readiness.specs.declared.Phase.the-variants.{Down, Pending, Ready}
 use Rattle.readiness.specs.declared.Status.{Status}
-use Rattle.readiness.specs.Status.{ready, entryOf}
+use Rattle.readiness.specs.Status.{ready, readyPhase, allReadyFrom, allReady, entryOf}
 use Rattle.readiness.specs.Events.{Event, due, frsOfSlot, frsOf}
-use Rattle.settle.specs.Next.{firstDue, below, nextSlot}
-use Rattle.settle.specs.Prepared.{downFrom, numbers, slotOf}
 use Rattle.readiness.specs.Root.{Root, nothingOwed, drsArrives, frsArrive}
-use Rattle.readiness.specs.Settle.{Scene, happens, happenAll, drsDue, tells}
-use Rattle.settle.proofs.Scan.{found, first-below, Next, some-next}
-use Rattle.readiness.proofs.Order.{due-length}
+use Rattle.readiness.specs.Settle.{Scene, happens, drsDue, tells, settles}
+use Rattle.readiness.proofs.Order.{phaseBy, readyBy, due-length}
+use Rattle.readiness.proofs.Scenes.{tells-statuses, settled-statuses}
+use Rattle.readiness.proofs.AtTheEnd.{allHappen, settlesAtEnd, settle-at-end}
+use Rattle.settle.specs.Next.{dueBy, waits, someWaits}
+use Rattle.settle.specs.Prepared.{downFrom, numbers, slotOf}
+use Rattle.settle.proofs.Scan.{First, first-due}
 use Rattle.settle.proofs.Insertion.{down-length, numbers-length}
 
-module _ (setup : Setup) (clock : Nanos) where
-  module _ (s after : Scene) (slot : ℕ) (cause : Cause) (t : Nanos) (first : firstDue (due clock (s .statuses)) ≡ At slot cause t) (e : after ≡ happens setup (record { slot = slot; cause = cause; time = t }) s) where
-    left-over : due clock (s .statuses) ≡ record { slot = slot; cause = cause; time = t } ∷ due clock (after .statuses)
-    unfolding happens
-    left-over = found clock (s .statuses) slot cause t first .others ∙ ap (λ (x : Scene). record { slot = slot; cause = cause; time = t } ∷ due clock (x .statuses)) (sym e)
+-- the slots of the events that are left stand in the first n places
+abbrev pub Left : (slots : List ℕ) → (n : ℕ) → List Event → Type 0
+Left slots n es = downFrom slots n ≡ numbers slotOf es
 
-    pub turns : happenAll setup (due clock (after .statuses)) after ≡ happenAll setup (due clock (s .statuses)) s
-    unfolding happenAll
-    turns = ap (happenAll setup (due clock (after .statuses))) e ∙ sym (ap (λ (l : List Event). happenAll setup l s) left-over)
+-- the next event's slot stands in place i, and the others' in those below it
+pub record Next (slots : List ℕ) (i : ℕ) (all : List Event) : Type 0 where
+  pub first : Event
+  pub others : List Event
+  pub is : all ≡ first ∷ others
+  pub slot : getD slots i 0 ≡ first .slot
+  pub left : Left slots i others
 
--- the slots that are left stand in the first j places, the next of them last
-module _ (clock : Nanos) (l : List Status) (slots : List ℕ) (j : ℕ) (e : downFrom slots j ≡ numbers slotOf (due clock l)) where
-  pub left-most : length l ≤ 32 → j ≤ 32
-  left-most n = omega (arith, down-length slots j, ap length e, numbers-length slotOf (due clock l), due-length 0 clock l)
+next-at : (slots : List ℕ) (i : ℕ) (all : List Event) → Left slots (suc i) all → Next slots i all
+unfolding downFrom numbers
+next-at slots i [] n = let z : _≡_ {A = ℕ} 0 1 = cc in absurd (omega arith)
+next-at slots i (e ∷ es) n = record { first = e; others = es; is = refl; slot = cc; left = cc }
 
-  pub left-none : j ≡ 0 → due clock l ≡ []
-  unfolding downFrom numbers
-  left-none z = go (due clock l) (ap (downFrom slots) (sym z) ∙ e)
-    where
-      go : (es : List Event) → downFrom slots 0 ≡ numbers slotOf es → es ≡ []
-      go [] q = refl
-      go (f ∷ es) q = let o : _≡_ {A = ℕ} 0 1 = cc in absurd (omega arith)
+pub next-event : (slots : List ℕ) (j : ℕ) (all : List Event) → Left slots j all → 0 < j → Next slots (j - 1) all
+next-event slots j all p h =
+    let z : j ≡ suc (j - 1) = omega arith in
+    next-at slots (j - 1) all (subst (λ (n : ℕ). Left slots n all) z p)
 
-  module _ (h : 0 < j) where
-    reads-next : downFrom slots j ≡ getD slots (j - 1) 0 ∷ downFrom slots (j - 1)
-    unfolding downFrom
-    reads-next = let z : j ≡ suc (j - 1) = omega arith in ap (downFrom slots) z
+pub none-left : (slots : List ℕ) (j : ℕ) (all : List Event) → Left slots j all → j ≡ 0 → all ≡ []
+unfolding downFrom numbers
+none-left slots j all p z = go all (ap (downFrom slots) (sym z) ∙ p)
+  where
+    go : (es : List Event) → downFrom slots 0 ≡ numbers slotOf es → es ≡ []
+    go [] q = refl
+    go (f ∷ es) q = let o : _≡_ {A = ℕ} 0 1 = cc in absurd (omega arith)
 
-    pub left-next : getD slots (j - 1) 0 ≡ nextSlot (firstDue (due clock l))
-    unfolding numbers
-    left-next = go (due clock l) (sym reads-next ∙ e)
-      where
-        go : (es : List Event) → getD slots (j - 1) 0 ∷ downFrom slots (j - 1) ≡ numbers slotOf es → getD slots (j - 1) 0 ≡ nextSlot (firstDue es)
-        go [] q = let o : _≡_ {A = ℕ} 0 1 = cc in absurd (omega arith)
-        go (f ∷ es) q = cc
+-- at most as many as there are slots
+pub left-most : (clock : Nanos) (l : List Status) (slots : List ℕ) (j : ℕ) → Left slots j (due clock l) → length l ≤ 32 → j ≤ 32
+left-most clock l slots j p n = omega (arith, down-length slots j, ap length p, numbers-length slotOf (due clock l), due-length 0 clock l)
 
-    pub left-below : getD slots (j - 1) 0 < length l
-    unfolding numbers
-    left-below = go (due clock l) (sym reads-next ∙ e) (first-below clock l)
-      where
-        go : (es : List Event) → getD slots (j - 1) 0 ∷ downFrom slots (j - 1) ≡ numbers slotOf es → below (length l) (firstDue es) → getD slots (j - 1) 0 < length l
-        go [] q b = let o : _≡_ {A = ℕ} 0 1 = cc in absurd (omega arith)
-        go (f ∷ es) q b = let k : getD slots (j - 1) 0 ≡ f .slot = cc in omega arith
+-- ---- one turn
 
-    pub left-rest : length l ≤ 32 → downFrom slots (j - 1) ≡ numbers slotOf (due clock (set l (getD slots (j - 1) 0) ready))
-    unfolding numbers
-    left-rest n =
-        let k = some-next clock l (getD slots (j - 1) 0) ready n left-next left-below in
-        let o = sym reads-next ∙ e ∙ ap (numbers slotOf) (found clock l (getD slots (j - 1) 0) (k .cause) (k .time) (k .first) .others) in
-        cc
+module _ (setup : Setup) (clock : Nanos) (s : Scene) (slots : List ℕ) (i : ℕ) (k : Next slots i (due clock (s .statuses))) where
+  abbrev slot : ℕ
+  slot = getD slots i 0
+
+  first : First clock (s .statuses) (k .first) (k .others)
+  first = first-due clock (s .statuses) (k .first) (k .others) (k .is)
+
+  -- the others are due once it has happened
+  left : k .others ≡ due clock (set (s .statuses) slot ready)
+  left = first .others ∙ ap (λ (n : ℕ). due clock (set (s .statuses) n ready)) (sym (k .slot))
+
+  pub next-left : (l : List Status) → l ≡ set (s .statuses) slot ready → Left slots i (due clock l)
+  next-left l put = subst (Left slots i) (left ∙ ap (due clock) (sym put)) (k .left)
+
+  module _ (l : List Status) (r : Root) (put : l ≡ set (s .statuses) slot ready)
+      (arrives : (cause : Cause) (time : Nanos) → getD (s .statuses) slot ready .phase ≡ Pending cause time → r ≡ frsArrive (frsOfSlot (setup .bus) (entryOf setup slot) slot cause) (s .root)) where
+    happened : record { statuses = l; root = r } ≡ happens setup (k .first) s
+    unfolding happens frsOf
+    happened =
+        let e = k .first in
+        let pends = ap (λ (n : ℕ). getD (s .statuses) n ready .phase) (k .slot) ∙ first .pends in
+        let root = arrives (e .cause) (e .time) pends ∙ ap (λ (n : ℕ). frsArrive (frsOfSlot (setup .bus) (entryOf setup n) n (e .cause)) (s .root)) (k .slot) in
+        let statuses = put ∙ ap (λ (n : ℕ). set (s .statuses) n ready) (k .slot) in
+        λ j. record { statuses = statuses j; root = root j }
+
+    -- what is left to happen, happens to what there is now as all of it would to what there was before
+    pub turns : allHappen setup (due clock l) (record { statuses = l; root = r }) ≡ allHappen setup (due clock (s .statuses)) s
+    unfolding allHappen
+    turns =
+        ap₂ (λ (es : List Event) (x : Scene). allHappen setup es x) (ap (due clock) put ∙ sym left) happened
+        ∙ sym (ap (λ (es : List Event). allHappen setup es s) (k .is))
+
+pub left-below : (clock : Nanos) (l : List Status) (slots : List ℕ) (j : ℕ) → Left slots j (due clock l) → 0 < j → getD slots (j - 1) 0 < length l
+left-below clock l slots j p h =
+    let k = next-event slots j (due clock l) p h in
+    let b = first-due clock l (k .first) (k .others) (k .is) .within in
+    omega (arith, k .slot)
 
 -- where none is left, nothing happens
-pub left-stops : (setup : Setup) (clock : Nanos) (s : Scene) → due clock (s .statuses) ≡ [] → s ≡ happenAll setup (due clock (s .statuses)) s
-unfolding happenAll
-left-stops setup clock s e = sym (ap (λ (l : List Event). happenAll setup l s) e)
+pub left-stops : (setup : Setup) (clock : Nanos) (s : Scene) → due clock (s .statuses) ≡ [] → s ≡ allHappen setup (due clock (s .statuses)) s
+unfolding allHappen
+left-stops setup clock s e = sym (ap (λ (l : List Event). allHappen setup l s) e)
 
-module _ (setup : Setup) (clock : Nanos) (s : Scene) (slot : ℕ) (d : Status) (l : List Status) (r : Root) (put : l ≡ set (s .statuses) slot ready) (n : length (s .statuses) ≤ 32)
-    (e : slot ≡ nextSlot (firstDue (due clock (s .statuses)))) (h : slot < length (s .statuses))
-    (arrives : (cause : Cause) (time : Nanos) → getD (s .statuses) slot d .phase ≡ Pending cause time → r ≡ frsArrive (frsOfSlot (setup .bus) (entryOf setup slot) slot cause) (s .root)) where
-  happened : (k : Next clock (s .statuses) slot d) → record { statuses = l; root = r } ≡ happens setup (record { slot = slot; cause = k .cause; time = k .time }) s
-  unfolding happens frsOf
-  happened k = let q = arrives (k .cause) (k .time) (k .pends) in λ j. record { statuses = put j; root = q j }
+-- ---- then the DRS
 
-  pub next-turns : happenAll setup (due clock l) (record { statuses = l; root = r }) ≡ happenAll setup (due clock (s .statuses)) s
-  next-turns =
-      let k = some-next clock (s .statuses) slot d n e h in
-      turns setup clock s (record { statuses = l; root = r }) slot (k .cause) (k .time) (k .first) (happened k)
+-- a slot is Ready once the clock has come to a moment, or waits on
+ready-or-waits : (clock : Nanos) (p : Phase) → readyPhase (phaseBy clock p) ≡ not (not (readyPhase p) && not (dueBy clock p))
+ready-or-waits clock Down = refl
+ready-or-waits clock Ready = refl
+ready-or-waits clock (Pending c t) = by (leb (t .0) (clock .0))
+  where
+    by : (b : Bool) → readyPhase (cond b Ready (Pending c t)) ≡ not (not b)
+    by true = refl
+    by false = refl
 
--- then the DRS, where it is due
-module _ (setup : Setup) (x : Scene) where
-  pub tells-quiet : drsDue x ≡ false → x ≡ tells setup x
+-- every slot counts: all are Ready where none waits
+none-waits : (setup : Setup) (j : ℕ) (clock : Nanos) (l : List Status) → allReadyFrom setup j (readyBy clock l) ≡ not (someWaits clock l)
+unfolding allReadyFrom readyBy someWaits
+none-waits setup j clock [] = refl
+none-waits setup j clock (s ∷ l) = ap₂ _&&_ (ready-or-waits clock (s .phase)) (none-waits setup (suc j) clock l) ∙ neither (waits clock s) (someWaits clock l)
+  where
+    neither : (a b : Bool) → (not a && not b) ≡ not (a || b)
+    neither true b = refl
+    neither false b = refl
+
+module _ (setup : Setup) (x y : Scene) (all : y ≡ allHappen setup (due (x .root .dev .clock) (x .statuses)) x) where
+  -- once all that is due has happened
+  then-ready : y .statuses ≡ readyBy (x .root .dev .clock) (x .statuses)
+  unfolding settlesAtEnd
+  then-ready =
+      sym (tells-statuses setup y)
+      ∙ ap (λ (z : Scene). z .statuses) (ap (tells setup) all ∙ sym (settle-at-end setup x))
+      ∙ settled-statuses setup x
+
+  then-due : drsDue setup y ≡ (y .root .dev .owed && not (someWaits (x .root .dev .clock) (x .statuses)))
+  then-due = ap (λ (b : Bool). y .root .dev .owed && b) (ap (allReady setup) then-ready ∙ none-waits setup 0 (x .root .dev .clock) (x .statuses))
+
+  told-by : (b : Bool) (q : Root) → q ≡ cond b (nothingOwed (drsArrives (setup .«port_id») (y .root))) (y .root) → b ≡ drsDue setup y → record { statuses = y .statuses; root = q } ≡ tells setup y
   unfolding tells
-  tells-quiet d = ap (λ (b : Bool). cond b (record { statuses = x .statuses; root = nothingOwed (drsArrives (setup .«port_id») (x .root)) }) x) (sym d)
+  told-by b q t d =
+      ap (λ (z : Root). record { statuses = y .statuses; root = z }) t
+      ∙ through b
+      ∙ ap (λ (b : Bool). cond b (record { statuses = y .statuses; root = nothingOwed (drsArrives (setup .«port_id») (y .root)) }) y) d
+    where
+      through : (b : Bool) → record { statuses = y .statuses; root = cond b (nothingOwed (drsArrives (setup .«port_id») (y .root))) (y .root) } ≡ cond b (record { statuses = y .statuses; root = nothingOwed (drsArrives (setup .«port_id») (y .root)) }) y
+      through true = refl
+      through false = refl
 
-  pub tells-told : (told : Root) → told ≡ nothingOwed (drsArrives (setup .«port_id») (x .root)) → drsDue x ≡ true → record { statuses = x .statuses; root = told } ≡ tells setup x
-  unfolding tells
-  tells-told told t d = ap (λ (y : Root). record { statuses = x .statuses; root = y }) t ∙ ap (λ (b : Bool). cond b (record { statuses = x .statuses; root = nothingOwed (drsArrives (setup .«port_id») (x .root)) }) x) (sym d)
-
--- the same by a test
-pub tells-by : (setup : Setup) (x : Scene) (b : Bool) (told : Root) → told ≡ cond b (nothingOwed (drsArrives (setup .«port_id») (x .root))) (x .root) → b ≡ drsDue x → record { statuses = x .statuses; root = told } ≡ tells setup x
-tells-by setup x true told t d = tells-told setup x told t (sym d)
-tells-by setup x false told t d = ap (λ (y : Root). record { statuses = x .statuses; root = y }) t ∙ tells-quiet setup x (sym d)
+  -- the DRS is told where one is owed and no slot waits
+  pub settles-told : (b : Bool) (q : Root) → q ≡ cond b (nothingOwed (drsArrives (setup .«port_id») (y .root))) (y .root)
+      → b ≡ (y .root .dev .owed && not (someWaits (x .root .dev .clock) (x .statuses))) → record { statuses = y .statuses; root = q } ≡ settles setup x
+  unfolding settlesAtEnd
+  settles-told b q t d = told-by b q t (d ∙ sym then-due) ∙ ap (tells setup) all ∙ sym (settle-at-end setup x)

@@ -8,18 +8,20 @@ use mathlib.Core.Bool.{Bool, true, false, _&&_, cond}
 use mathlib.Core.List.{List, [], _∷_, _++_}
 use lib.Dec.{ltb}
 use lib.ListN.{length, getD, take, drop, set, drop-of-length-le}
-use lib.Seq.{drop-cons, take-suc, take-suc-set, take-all}
+use lib.Seq.{take-suc, take-suc-set, take-all, drop-cons}
 use borrow.Author.Tests.{lt-ltb, le-ltb, ltb-true, ltb-false}
 use Rattle.readiness.specs.declared.Status.{Status}
-use Rattle.readiness.specs.Status.{isReady, allReady, eachFrom}
+use Rattle.readiness.specs.declared.Setup.{Setup}
+use Rattle.readiness.specs.Status.{isReady, allReadyFrom, eachFrom}
 
-pub ready-cons : (l : List Status) (d : Status) (i : ℕ) (b : Bool) → i < length l → isReady (getD l i d) ≡ b → allReady (drop i l) ≡ (b && allReady (drop (i + 1) l))
-unfolding allReady
-ready-cons l d i b h e = rw (add-one, drop-cons l i d, e)
+-- all that count are Ready, slot by slot
+pub ready-cons : (setup : Setup) (l : List Status) (d : Status) (i : ℕ) (b : Bool) → i < length l → isReady (getD l i d) ≡ b → allReadyFrom setup i (drop i l) ≡ (b && allReadyFrom setup (i + 1) (drop (i + 1) l))
+unfolding allReadyFrom
+ready-cons setup l d i b h e = rw (add-one, drop-cons l i d, e)
 
-pub ready-end : (l : List Status) (i : ℕ) → length l ≤ i → allReady (drop i l) ≡ true
-unfolding allReady
-ready-end l i h = rw (drop-of-length-le l h)
+pub ready-end : (setup : Setup) (l : List Status) (i : ℕ) → length l ≤ i → allReadyFrom setup i (drop i l) ≡ true
+unfolding allReadyFrom
+ready-end setup l i h = rw (drop-of-length-le l h)
 
 -- one slot more of a list is the same as another's
 pub take-put : (l m : List Status) (d s : Status) (i : ℕ) → i < length l → i < length m → take i l ≡ take i m → s ≡ getD m i d → take (i + 1) (set l i s) ≡ take (i + 1) m

@@ -3,7 +3,8 @@
 use mathlib.Core.Path.{_≡_, refl}
 use Rattle.readiness.specs.declared.Cause.the-variants.{Flr}
 use Rattle.readiness.specs.declared.Phase.the-variants.{Pending}
-use Rattle.line_text.specs.Text.{chars, glyphOf, decimalFrom}
+use Rattle.bits.specs.Text.{chars}
+use Rattle.line_text.specs.Text.{glyphOf, decimalFrom}
 use Rattle.state_lines.specs.States.{momentText, causeText, pendingText, phaseText, slotText}
 
 in-flr : slotText 1 (Pending (Flr (record { 0 = 15 })) (record { 0 = 20 })) ≡ chars "slot 1: Pending until 20 ns (FLR, in progress until 15 ns)"

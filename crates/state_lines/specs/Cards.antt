@@ -6,7 +6,8 @@ use mathlib.Core.List.{List, _++_}
 use Rattle.times.specs.declared.Code.{Code}
 use Rattle.times.specs.Codes.{allowed, nanosOf}
 use Rattle.readiness.specs.declared.Slot.{Slot}
-use Rattle.line_text.specs.Text.{chars, hexOf, named, textIf}
+use Rattle.bits.specs.Text.{chars}
+use Rattle.line_text.specs.Text.{hexOf, named, textIf}
 use Rattle.words.specs.Records.{idText, wordText}
 
 -- slots, queue, bus number and the port's ID

@@ -12,7 +12,8 @@ use Rattle.readiness.specs.declared.Phase.{Phase}
 use Rattle.readiness.specs.declared.Phase.the-variants.{Down, Pending, Ready}
 use Rattle.readiness.specs.declared.Control.{Control}
 use Rattle.readiness.specs.declared.Dev.{Dev}
-use Rattle.line_text.specs.Text.{chars, named, textIf}
+use Rattle.bits.specs.Text.{chars}
+use Rattle.line_text.specs.Text.{named, textIf}
 use Rattle.words.specs.Records.{switchText, signallingText, frsText}
 
 -- a moment, after its name

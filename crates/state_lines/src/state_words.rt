@@ -2,7 +2,7 @@
 ghost use mathlib.Core.Path.{_≡_};
 ghost use Rattle.line_text.specs.Line.{Put};
 ghost use Rattle.state_lines.specs.States.{momentText, linkText, bitText, portBitsText, portControlText, queueText, cellText, placeOf, queuedText, causeText, pendingText, phaseText, slotText};
-use line_text::numbers::word_at;
+use bits::word_at;
 use line_text::text::put_either;
 use line_text::text::put_if;
 use line_text::text::put_named;

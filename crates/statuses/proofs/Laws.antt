@@ -6,6 +6,7 @@ use mathlib.Core.List.{List, [], _∷_, _++_}
 use native.Mathlib.Omega.{arith}
 use lib.ListN.{length, getD, set, take, replicate}
 use lib.Seq.{getD-set-same, set-out}
+use Rattle.bits.proofs.Lists.{getD-same}
 use Rattle.readiness.specs.declared.Status.{Status}
 use Rattle.readiness.specs.Status.{ready}
 use Rattle.demand3.specs.Held.{lentOf}
@@ -18,14 +19,9 @@ replaced-at l slot s past h = getD-set-same l slot s past h
 pub replaced-past-end : (l : List Status) (slot : ℕ) (s : Status) → length l ≤ slot → set l slot s ≡ l
 replaced-past-end l slot s h = set-out l slot s h
 
-ready-get : (m k : ℕ) → getD (replicate m ready) k ready ≡ ready
-ready-get zero k = refl
-ready-get (suc m) zero = refl
-ready-get (suc m) (suc k) = ready-get m k
-
 pad-get : (l : List Status) (i m k : ℕ) → k < i → getD (take i l ++ replicate m ready) k ready ≡ getD l k ready
 pad-get l zero m k h = absurd (omega arith)
-pad-get [] (suc i) m k h = ready-get m k
+pad-get [] (suc i) m k h = getD-same m k ready
 pad-get (s ∷ l) (suc i) m zero h = refl
 pad-get (s ∷ l) (suc i) m (suc k) h = pad-get l i m k (omega arith)
 

@@ -1,10 +1,11 @@
 // Slot statuses as they are lent: read, replaced, copied in and out.
 ghost use mathlib.Core.Path.{_≡_};
-ghost use Prim.Native.Nat.{_<_, min};
+ghost use Prim.Native.Nat.{_<_};
 ghost use lib.ListN.{length, getD, set, replicate};
 ghost use Rattle.readiness.specs.Status.{ready, down};
 ghost use Rattle.demand3.specs.Held.{lentOf};
 ghost use Rattle.statuses.specs.Statuses.{storedOver};
+use bits::at_most;
 use readiness::Phase;
 use readiness::Status;
 
@@ -59,18 +60,11 @@ fn taken(array: [Status; 32], slot: usize) -> Status
     array[slot]
 }
 
-// n, and at most 32.
-pub fn at_most_32(n: usize) -> usize
-    ensures { λ r. ⌜ r ≡ min n 32 ⌝ }
-{
-    if n < 32 { n } else { 32 }
-}
-
 // The first 32 of the statuses; where fewer are lent, Ready past their end.
 pub fn load(statuses: &[Status]) -> [Status; 32]
     ensures { λ r. ⌜ r ≡ lentOf 32 (now (statuses .entry)) ⌝ }
 {
-    let n = at_most_32(statuses.len());
+    let n = at_most(statuses.len(), 32);
     let past = ready_status();
     let mut array = all_ready();
     let mut i: usize = 0;
@@ -85,7 +79,7 @@ pub fn load(statuses: &[Status]) -> [Status; 32]
 pub fn store(statuses: &mut [Status], array: [Status; 32])
     ensures { λ _. ⌜ now (statuses .exit) ≡ storedOver (now (statuses .entry)) array ⌝ }
 {
-    let n = at_most_32(statuses.len());
+    let n = at_most(statuses.len(), 32);
     let mut i: usize = 0;
     while i < n {
         replace_status(statuses, i, taken(array, i));

@@ -71,7 +71,7 @@ fn put_held(printed: &mut [u8], at: usize, offset: u64, held: Held) -> usize {
     if held.count < held.size {
         return put_incomplete(printed, at, offset, bytes[0], held.count, held.size);
     }
-    put_shown(printed, at, offset, device::decoding::decode(bytes))
+    put_shown(printed, at, offset, gather::decoding::decode(bytes))
 }
 
 fn print_held(s: Showing, held: Held, printed: &mut [u8]) -> Waiting {

@@ -2,16 +2,16 @@
 use Prim.Native.Nat.{ℕ, zero, suc, _≤_, _<_}
 use mathlib.Core.Path.{_≡_, refl, ap, sym, _∙_}
 use mathlib.Core.List.{List, [], _∷_, _++_}
-use mathlib.Core.Bool.{Bool, true, false}
+use mathlib.Core.Bool.{Bool, true, false, and-false}
 use native.Mathlib.Omega.{arith}
 use lib.ListN.{length, take, drop, length-append, length-drop}
 use lib.Seq.{append-snoc, take-append-le, drop-append-le, take-at, drop-at}
 use lib.Dec.{leb}
 use borrow.Author.Tests.{le-leb, lt-leb, leb-true}
+use Rattle.bits.proofs.Tests.{both-left, both-right}
 use Rattle.trace.specs.Format.{if_then_else_, known, body, whole}
 use Rattle.trace.specs.Bench.{Cut, front, uncut, cutIn, cut}
 use Rattle.trace.specs.Feed.{kindAt}
-use Rattle.trace.proofs.Tests.{and-left, and-right, and-no}
 
 -- whole records in front
 abbrev pub fronts : List (List ℕ) → Cut → Cut
@@ -55,15 +55,15 @@ whole-of k rest h j = rw (h, le-leb _ _ j)
 
 pub known-of : (k : ℕ) (rest : List ℕ) → whole k rest ≡ true → known k ≡ true
 unfolding whole
-known-of k rest = and-left (known k) (leb (body k) (length rest))
+known-of k rest = both-left (known k) (leb (body k) (length rest))
 
 pub fits-of : (k : ℕ) (rest : List ℕ) → whole k rest ≡ true → body k ≤ length rest
 unfolding whole
-fits-of k rest e = leb-true _ _ (and-right (known k) (leb (body k) (length rest)) e)
+fits-of k rest e = leb-true _ _ (both-right (known k) (leb (body k) (length rest)) e)
 
 short-of : (k : ℕ) (rest : List ℕ) → length rest < body k → whole k rest ≡ false
 unfolding whole
-short-of k rest j = rw (lt-leb _ _ j) (and-no (known k))
+short-of k rest j = rw (lt-leb _ _ j) (and-false (known k))
 
 pub cut-unknown : (k : ℕ) (rest : List ℕ) → known k ≡ false → cut (k ∷ rest) ≡ uncut (k ∷ rest)
 unfolding whole

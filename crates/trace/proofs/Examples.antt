@@ -7,6 +7,7 @@ use native.Mathlib.Omega.{arith}
 use lib.ListN.{length, getD, take, replicate}
 use lib.Dec.{leb, eqb}
 use borrow.Author.Tests.{le-leb, ne-eqb}
+use Rattle.bits.proofs.Tests.{both-right}
 use Rattle.trace.specs.Format.{if_then_else_, sizeOf, known, body, whole, begun, pad, Bytes}
 use Rattle.trace.specs.Bench.{Ran, Device, cutIn, cut, runs, plain}
 use Rattle.trace.specs.Outcome.{Outcome, unknownNext, scan, outcome, outcomeOf}
@@ -14,7 +15,7 @@ use Rattle.trace.specs.Feed.{byte, feedOpen}
 use Rattle.trace.specs.Lent.{Lent, refusal, refusalOr31, feeds}
 use Rattle.trace.specs.Calls.{Call, BytesIn, calls, allRefused, expectedFrom, expected}
 use Rattle.trace.specs.Claim.{Keeps, Claim}
-use Rattle.trace.proofs.Tests.{if-false, and-right}
+use Rattle.trace.proofs.Tests.{if-false}
 use Rattle.trace.proofs.Lists.{take-pad}
 use Rattle.trace.proofs.Gathering.{begun-short}
 use Rattle.trace.proofs.Refusing.{refusal-none, refusal-accepted}
@@ -106,7 +107,7 @@ unfolding toyRun
 keeps h =
     record {
       good = λ e. set-up-good (h .dev) (refusal-accepted lent h e .0);
-      carries = λ e. and-right (leb (h .count) 16) (begun (take (h .count) (h .carried))) (refusal-accepted lent h e .1);
+      carries = λ e. both-right (leb (h .count) 16) (begun (take (h .count) (h .carried))) (refusal-accepted lent h e .1);
       run = λ s r w b g. ne-eqb (s + getD r 0 0) 0 (λ e. omega (arith, positive s g));
       kept = λ p g b. λ i. record { dev = p .dev; carried = take-pad 16 (p .carried) i; broken = p .broken };
       accepted = λ p g b.

@@ -1,16 +1,16 @@
 -- What stands next in a trace, as code gathers it, by a kind's whole size; and the test of the carried bytes.
 use Prim.Native.Nat.{ℕ, zero, suc, _-_, _≤_, _<_}
-use mathlib.Core.Path.{_≡_, refl, sym}
-use mathlib.Core.Bool.{Bool, true, false, _&&_}
+use mathlib.Core.Path.{_≡_, refl, sym, ap, _∙_}
+use mathlib.Core.Bool.{Bool, true, false, _&&_, and-false}
 use mathlib.Core.List.{List, [], _∷_}
 use native.Mathlib.Omega.{arith}
-use lib.ListN.{length, getD, take, replicate}
-use lib.Seq.{length-take-le, take-all}
+use lib.ListN.{length, getD, take}
+use lib.Seq.{length-take-le}
 use lib.Dec.{T, leb, ltb, leb→le}
 use borrow.Author.Tests.{lt-ltb, le-ltb, le-leb, lt-leb, ltb-true, ltb-false}
-use Rattle.trace.specs.Format.{sizes, sizeOf, longest, known, body, complete, next, begun, pad}
-use Rattle.trace.specs.Feed.{gathered}
-use Rattle.trace.proofs.Tests.{and-left, and-right, and-no}
+use Rattle.bits.proofs.Tests.{both-left, both-right}
+use Rattle.trace.specs.Format.{recordSizes, sizeOf, longest, known, body, Next, complete, incomplete, unknown, next, begun}
+use Rattle.trace.specs.Feed.{wholeSize, endNumber, endCount}
 use Rattle.trace.proofs.Cutting.{Partial}
 
 -- ---- no record is longer than 17 bytes: one test over the table
@@ -30,7 +30,7 @@ within-at m (x ∷ xs) (suc k) t = within-at m xs k (all-and (leb x m) (all-with
 
 pub size-within : (kind : ℕ) → sizeOf kind ≤ longest
 unfolding sizeOf all-within
-size-within kind = within-at longest sizes kind tt
+size-within kind = within-at longest recordSizes kind tt
 
 pub body-within : (kind : ℕ) → body kind ≤ longest - 1
 unfolding body
@@ -45,44 +45,83 @@ pub unknown-size : (kind : ℕ) → sizeOf kind ≡ 0 → known kind ≡ false
 unfolding known
 unknown-size kind e = le-ltb 0 (sizeOf kind) (omega arith)
 
--- ---- what is gathered, in each of the five ways
-module _ (room : ℕ) where
-  pub gathered-none : (bs : List ℕ) → length bs ≡ 0 → record { runs = false; number = 0; bytes = replicate longest 0; count = 0 } ≡ gathered bs room (next bs)
-  unfolding next
-  gathered-none [] e = refl
-  gathered-none (k ∷ rest) e = absurd (omega arith)
+-- ---- what stands next, by the size that the first byte tells
+-- a whole record
+next-whole : (bs : List ℕ) (n : ℕ) → sizeOf (getD bs 0 0) ≡ n → 0 < n → n ≤ length bs → (next bs ≡ complete (take n bs)) × (length (take n bs) ≡ n)
+unfolding next
+next-whole [] n e h j = absurd (omega arith)
+next-whole (k ∷ rest) n e h j =
+    let s = known-size k (omega arith) in
+    let m : n ≡ suc (body k) = omega arith in
+    (rw (s .0, le-leb (body k) (length rest) (omega arith), m), length-take-le n (k ∷ rest) j)
 
-  pub gathered-unknown : (bs : List ℕ) → 0 < length bs → sizeOf (getD bs 0 0) ≡ 0
-      → record { runs = false; number = 31; bytes = replicate longest 0; count = 0 } ≡ gathered bs room (next bs)
-  unfolding next
-  gathered-unknown [] h e = absurd (omega arith)
-  gathered-unknown (k ∷ rest) h e = rw (unknown-size k e)
+-- the start of one
+next-part : (bs : List ℕ) → length bs < sizeOf (getD bs 0 0) → next bs ≡ incomplete
+unfolding next
+next-part [] j = refl
+next-part (k ∷ rest) j = let s = known-size k (omega arith) in rw (s .0, lt-leb (body k) (length rest) (omega arith))
 
-  pub gathered-part : (bs : List ℕ) (n : ℕ) → length bs ≡ n → 0 < n → n < sizeOf (getD bs 0 0)
-      → record { runs = false; number = 0; bytes = pad longest (take n bs); count = n } ≡ gathered bs room (next bs)
-  unfolding next
-  gathered-part [] n e h j = absurd (omega arith)
-  gathered-part (k ∷ rest) n e h j =
-      let q : take n (k ∷ rest) ≡ k ∷ rest = take-all n (k ∷ rest) (omega arith) in
-      let s = known-size k (omega arith) in
-      rw (s .0, lt-leb (body k) (length rest) (omega arith), q, e)
+-- no byte, or a kind that there is not
+next-none : (bs : List ℕ) → length bs ≡ 0 → next bs ≡ incomplete
+unfolding next
+next-none [] e = refl
+next-none (k ∷ rest) e = absurd (omega arith)
 
-  -- a whole record, with room for its answer or without
-  next-whole : (bs : List ℕ) (n : ℕ) → sizeOf (getD bs 0 0) ≡ n → 0 < n → n ≤ length bs → (next bs ≡ complete (take n bs)) × (length (take n bs) ≡ n)
-  unfolding next
-  next-whole [] n e h j = absurd (omega arith)
-  next-whole (k ∷ rest) n e h j =
-      let s = known-size k (omega arith) in
-      let m : n ≡ suc (body k) = omega arith in
-      (rw (s .0, le-leb (body k) (length rest) (omega arith), m), length-take-le n (k ∷ rest) j)
+next-unknown : (bs : List ℕ) → 0 < length bs → sizeOf (getD bs 0 0) ≡ 0 → next bs ≡ unknown
+unfolding next
+next-unknown [] h e = absurd (omega arith)
+next-unknown (k ∷ rest) h e = rw (unknown-size k e)
 
-  pub gathered-full : (bs : List ℕ) (n : ℕ) → sizeOf (getD bs 0 0) ≡ n → 0 < n → n ≤ length bs → room < 8
-      → record { runs = false; number = 30; bytes = pad longest (take n bs); count = n - 1 } ≡ gathered bs room (next bs)
-  gathered-full bs n e h j l = let w = next-whole bs n e h j in rw (w .0, lt-ltb room 8 l, w .1)
+module _ (room : ℕ) (bs : List ℕ) where
+  none-by : (n : Next) → next bs ≡ n → wholeSize room n ≡ 0 → 0 ≡ wholeSize room (next bs)
+  none-by n e z = sym (ap (wholeSize room) e ∙ z)
 
-  pub gathered-whole : (bs : List ℕ) (n : ℕ) → sizeOf (getD bs 0 0) ≡ n → 0 < n → n ≤ length bs → 8 ≤ room
-      → record { runs = true; number = 0; bytes = pad longest (take n bs); count = n } ≡ gathered bs room (next bs)
-  gathered-whole bs n e h j l = let w = next-whole bs n e h j in rw (w .0, le-ltb room 8 l, w .1)
+  -- no record runs: there is no byte, or not all of its bytes, or no room for its answer
+  pub runs-nothing : length bs ≡ 0 → 0 ≡ wholeSize room (next bs)
+  runs-nothing e = none-by incomplete (next-none bs e) refl
+
+  pub runs-none : length bs < sizeOf (getD bs 0 0) → 0 ≡ wholeSize room (next bs)
+  runs-none j = none-by incomplete (next-part bs j) refl
+
+  full : (n : Next) → room < 8 → 0 ≡ wholeSize room n
+  full (complete r) h = rw (lt-ltb room 8 h)
+  full incomplete h = refl
+  full unknown h = refl
+
+  pub runs-not : room < 8 → 0 ≡ wholeSize room (next bs)
+  runs-not = full (next bs)
+
+  -- else the one in front runs, if there is such a kind
+  pub runs-whole : (n : ℕ) → sizeOf (getD bs 0 0) ≡ n → n ≤ length bs → 8 ≤ room → n ≡ wholeSize room (next bs)
+  runs-whole zero e j l = by (length bs) refl
+    where
+      by : (m : ℕ) → length bs ≡ m → 0 ≡ wholeSize room (next bs)
+      by zero q = none-by incomplete (next-none bs q) refl
+      by (suc m) q = none-by unknown (next-unknown bs (omega arith) e) refl
+  runs-whole (suc n) e j l =
+      let w = next-whole bs (suc n) e (omega arith) j in
+      sym (ap (wholeSize room) (w .0) ∙ rw (le-ltb room 8 l) (w .1))
+
+-- the call's end
+pub record EndsSo (bs : List ℕ) (n m : ℕ) : Type 0 where
+  pub number : n ≡ endNumber (next bs)
+  pub count : m ≡ endCount bs (next bs)
+
+module _ (bs : List ℕ) where
+  ends-by : (n : Next) → next bs ≡ n → (c : ℕ) → c ≡ endCount bs n → EndsSo bs (endNumber n) c
+  ends-by n e c q = record { number = ap endNumber (sym e); count = q ∙ ap (endCount bs) (sym e) }
+
+  pub ends-none : length bs ≡ 0 → EndsSo bs 0 0
+  ends-none e = ends-by incomplete (next-none bs e) 0 (sym e)
+
+  pub ends-unknown : 0 < length bs → sizeOf (getD bs 0 0) ≡ 0 → EndsSo bs 31 0
+  ends-unknown h e = ends-by unknown (next-unknown bs h e) 0 refl
+
+  pub ends-part : (n : ℕ) → length bs ≡ n → n < sizeOf (getD bs 0 0) → EndsSo bs 0 n
+  ends-part n e j = ends-by incomplete (next-part bs (omega arith)) n (sym e)
+
+  pub ends-full : (n : ℕ) → sizeOf (getD bs 0 0) ≡ n → 0 < n → n ≤ length bs → EndsSo bs 30 (n - 1)
+  ends-full n e h j = let w = next-whole bs n e h j in ends-by (complete (take n bs)) (w .0) (n - 1) (ap (λ (m : ℕ). m - 1) (sym (w .1)))
 
 -- ---- the carried bytes
 both : (n kind : ℕ) → (known kind && ltb n (body kind)) ≡ ltb (suc n) (sizeOf kind)
@@ -94,7 +133,7 @@ both n kind = go (ltb (suc n) (sizeOf kind)) refl
         let h = ltb-true (suc n) (sizeOf kind) e in
         let s = known-size kind (omega arith) in
         rw (s .0, lt-ltb n (sizeOf kind - 1) (omega arith))
-    go false e = let h = ltb-false (suc n) (sizeOf kind) e in rw (le-ltb n (sizeOf kind - 1) (omega arith)) (and-no (known kind))
+    go false e = let h = ltb-false (suc n) (sizeOf kind) e in rw (le-ltb n (sizeOf kind - 1) (omega arith)) (and-false (known kind))
 
 -- code's test of the carried bytes: fewer than their kind's whole size
 pub begun-at : (c : List ℕ) (len : ℕ) → 0 < len → len ≤ length c → ltb len (sizeOf (getD c 0 0)) ≡ begun (take len c)
@@ -111,7 +150,7 @@ pub begun-partial : (c : List ℕ) → begun c ≡ true → Partial c
 unfolding begun
 begun-partial [] e = tt
 begun-partial (k ∷ rest) e =
-    (and-left (known k) (ltb (length rest) (body k)) e, ltb-true (length rest) (body k) (and-right (known k) (ltb (length rest) (body k)) e))
+    (both-left (known k) (ltb (length rest) (body k)) e, ltb-true (length rest) (body k) (both-right (known k) (ltb (length rest) (body k)) e))
 
 pub partial-begun : (c : List ℕ) → Partial c → begun c ≡ true
 unfolding begun

@@ -10,13 +10,13 @@ use lib.ListN.{length, take, drop, length-append, length-drop, take-append-drop}
 use lib.Seq.{length-take-le, take-take, take-at, drop-at}
 use lib.Dec.{leb}
 use borrow.Author.Tests.{le-leb, lt-leb}
+use Rattle.bits.proofs.Tests.{split}
 use Rattle.trace.specs.Format.{if_then_else_, known, body, whole, complete, incomplete, unknown, next, begun}
 use Rattle.trace.specs.Bench.{Device, Bench, Benched, Cut, front, uncut, cut, runs, plain}
 use Rattle.trace.specs.Feed.{Fed, feedOpen, feed}
 use Rattle.trace.specs.Lent.{Lent, Left, outcomeIn, feeds}
 use Rattle.trace.specs.Calls.{Call, Came, BytesIn, noCall, before, calls, gave}
 use Rattle.trace.specs.Claim.{Keeps, Fresh, FromFresh}
-use Rattle.trace.proofs.Tests.{split}
 use Rattle.trace.proofs.Cutting.{Partial, cut-whole, cut-short, whole-of, known-of, fits-of, cut-nil}
 use Rattle.trace.proofs.Records.{complete-at, incomplete-at, length-whole}
 use Rattle.trace.proofs.Gathering.{begun-partial, partial-begun}

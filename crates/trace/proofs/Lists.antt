@@ -7,27 +7,19 @@ use native.Mathlib.Omega.{arith}
 use native.Mathlib.Numerals.{add-one}
 use lib.ListN.{length, getD, take, drop, set, replicate, length-append, length-replicate, List·getD-append}
 use lib.Seq.{take-append-seam, set-append-seam, append-snoc, length-take-le, getD-append-add, drop-append-add, getD-take, take-suc}
+use Rattle.bits.proofs.Lists.{length-padded, take-padded, padded-more}
 use Rattle.trace.specs.Format.{pad, Bytes}
 
 -- ---- bytes with zeros after them
 pub length-pad : (m : ℕ) (c : List ℕ) → length c ≤ m → length (pad m c) ≡ m
-length-pad m c h = length-append c _ ∙ rw length-replicate (omega arith)
+length-pad m c h = length-padded 0 m c h
 
 pub take-pad : (m : ℕ) (c : List ℕ) → take (length c) (pad m c) ≡ c
-take-pad m c = take-append-seam c _
+take-pad m c = take-padded 0 m c
 
 -- one more byte after those of bs that are there
 pub pad-more : (m : ℕ) (bs : List ℕ) (j : ℕ) → j < m → j < length bs → set (pad m (take j bs)) j (getD bs j 0) ≡ pad m (take (j + 1) bs)
-pad-more m bs j h k =
-    let c = take j bs in
-    let n : length c ≡ j = length-take-le j bs (omega arith) in
-    let b = getD bs j 0 in
-    let e : m - length c ≡ suc (m - length (c ++ b ∷ [])) = omega (arith, length-append c (b ∷ [])) in
-    ap (λ (i : ℕ). set (pad m c) i b) (sym n)
-    ∙ ap (λ (i : ℕ). set (c ++ replicate i 0) (length c) b) e
-    ∙ set-append-seam c 0 (replicate (m - length (c ++ b ∷ [])) 0) b
-    ∙ sym (append-snoc c b (replicate (m - length (c ++ b ∷ [])) 0))
-    ∙ ap (pad m) (sym (take-suc bs j 0 k) ∙ ap (λ (i : ℕ). take i bs) (sym (add-one j)))
+pad-more m bs j h k = padded-more 0 m bs j h k
 
 -- ---- what is carried, and then the input
 pub joined-carried : (c input : List ℕ) (len j : ℕ) → j < len → len ≤ length c → getD c j 0 ≡ getD (take len c ++ input) j 0

@@ -1,13 +1,14 @@
 -- DEMAND 3, for any device: every list of calls is one trace on the plain bench.
 use Prim.Native.Nat.{ℕ, zero, suc, _-_, _<_}
 use mathlib.Core.Path.{_≡_, refl, ap, sym, _∙_}
-use mathlib.Core.Bool.{Bool, true, false, _||_, true≢false}
+use mathlib.Core.Bool.{Bool, true, false, _||_, true≢false, or-assoc, or-false}
 use mathlib.Core.List.{List, [], _∷_, _++_, append-nil, append-assoc}
 use native.Mathlib.Omega.{arith}
 use lib.ListN.{length, take, drop, take-append-drop}
 use lib.Seq.{take-append-seam, drop-append-seam, take-at, drop-at}
 use lib.Dec.{ltb, eqb}
 use borrow.Author.Tests.{ne-eqb}
+use Rattle.bits.proofs.Tests.{split}
 use Rattle.trace.specs.Format.{Bytes}
 use Rattle.trace.specs.Bench.{Device, Bench, Benched, cut, plain}
 use Rattle.trace.specs.Outcome.{Outcome, unknownNext, scan, outcome, outcomeOf}
@@ -15,7 +16,7 @@ use Rattle.trace.specs.Feed.{feedOpen}
 use Rattle.trace.specs.Lent.{Lent, Left, outcomeIn, refusal, feeds}
 use Rattle.trace.specs.Calls.{Call, Came, slicesOf, BytesIn, calls, gave, beyond, placed, allGive, expectedFrom, expected}
 use Rattle.trace.specs.Claim.{Keeps, benchAfter, Claim}
-use Rattle.trace.proofs.Tests.{if-cases, split, or-assoc, or-false}
+use Rattle.trace.proofs.Tests.{if-cases}
 use Rattle.trace.proofs.Feeding.{left-as, plain-partial}
 use Rattle.trace.proofs.Gathering.{begun-partial, partial-begun}
 use Rattle.trace.proofs.OneCall.{OneCall, one-call, plain-append, feed-shut, feed-open, Kept, open-keeps}

@@ -1,10 +1,10 @@
 -- One call at an accepted bench, byte by byte.
 use Prim.Native.Nat.{ℕ, _+_, _-_}
-use mathlib.Core.Bool.{Bool, true, false}
+use mathlib.Core.Bool.{true, false}
 use mathlib.Core.List.{List, [], _∷_, _++_}
 use lib.ListN.{length}
 use lib.Dec.{ltb}
-use Rattle.trace.specs.Format.{if_then_else_, known, body, longest, pad, Next, complete, incomplete, unknown}
+use Rattle.trace.specs.Format.{if_then_else_, known, body, Next, complete, incomplete, unknown}
 use Rattle.trace.specs.Bench.{Device, Ran, Bench}
 
 -- what one call comes to: the bench after it, its number, how many bytes it consumed, and the answers that it wrote, joined
@@ -70,18 +70,21 @@ module _ {S : Type 0} (D : Device S) where
   unfoldable pub feed : Bench S → ℕ → List ℕ → Fed S
   feed p room input = if p .broken then stopped 31 p else feedOpen p room input
 
--- ---- What stands next in a call's trace, as code that goes record by record gathers it
--- A record to run: its bytes, with zeros after them, and how many they are. Or the call's end: its number, and how many of the bytes are carried
-pub record Gathered : Type 0 where
-  pub runs : Bool
-  pub number : ℕ
-  pub bytes : List ℕ
-  pub count : ℕ
+-- ---- What stands next in a call's trace, for code that goes record by record
+-- how many bytes the record in front has, if it is whole and there is room for its answer; 0 where the call ends
+abbrev pub wholeSize : (room : ℕ) → Next → ℕ
+wholeSize room (complete r) = if ltb room 8 then 0 else length r
+wholeSize room incomplete = 0
+wholeSize room unknown = 0
 
-abbrev pub gathered : List ℕ → ℕ → Next → Gathered
-gathered bs room (complete r) =
-    if ltb room 8
-    then record { runs = false; number = 30; bytes = pad longest r; count = length r - 1 }
-    else record { runs = true; number = 0; bytes = pad longest r; count = length r }
-gathered bs room incomplete = record { runs = false; number = 0; bytes = pad longest bs; count = length bs }
-gathered bs room unknown = record { runs = false; number = 31; bytes = pad longest []; count = 0 }
+-- where it ends: its number
+abbrev pub endNumber : Next → ℕ
+endNumber (complete r) = 30
+endNumber incomplete = 0
+endNumber unknown = 31
+
+-- and how many of the bytes bs are carried: of a whole record, for which there is no room, all but the last
+abbrev pub endCount : (bs : List ℕ) → Next → ℕ
+endCount bs (complete r) = length r - 1
+endCount bs incomplete = length bs
+endCount bs unknown = 0

@@ -1,4 +1,4 @@
--- The first k elements of a local array that a walk lends to a callee by `&mut`, as a slice of k, and uses again: `Locals.antt`'s `lend-array` and `back-array`, of a front. It says nothing of the crate, and can be copied as it stands.
+-- The first k elements of a local array that a walk lends to a callee by `&mut`, as a slice of k, and uses again. It says nothing of the crate, and can be copied as it stands.
 --     FrontOut     what the lender keeps: its part of the loan of k elements, and the elements after them
 --     lend-front   the array's cell and what its elements own at the head: for a lifetime ν of the call, its token, the `&mut [T]` on `take k xs` under a name δ, and `FrontOut`
 --     back-front   ν's token, `FrontOut` and the last list ys under δ: the array's cell again, at some machine value of `ys ++ drop k xs`

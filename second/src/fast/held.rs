@@ -21,12 +21,18 @@ fn run_fast(setup: &Setup, state: &mut State, operation: &Operation, out: &mut V
             out.extend((fed.written as u32).to_le_bytes());
             out.extend(&answers);
         }
-        Operation::Lend(lent) => {
+        Operation::Lend { state: lent, .. } => {
             *state = (**lent).clone();
             return;
         }
+        Operation::WriteMessage { .. } | Operation::ReadMessage(_) => return,
     }
     put_image(state, out);
+}
+
+/// The fast model has no message reader and writer apart from a trace.
+fn is_of_both(operation: &Operation) -> bool {
+    !matches!(operation, Operation::WriteMessage { .. } | Operation::ReadMessage(_))
 }
 
 /// What the images leave out: a refusal leaves the port as it was, and other calls leave zeros past the carried bytes.
@@ -44,7 +50,8 @@ pub fn hold(case: &Case) -> Result<(), String> {
     let mut plain = Bench::new(&case.setup, Fault::None);
     let mut state = State::zero(&case.setup);
     let (mut wanted, mut given) = (Vec::new(), Vec::new());
-    for (index, operation) in case.operations.iter().enumerate() {
+    let operations = case.operations.iter().enumerate();
+    for (index, operation) in operations.filter(|(_, operation)| is_of_both(operation)) {
         wanted.clear();
         given.clear();
         let before = state.clone();

@@ -4,22 +4,19 @@ use crate::card;
 use crate::fast::{feed, set_up};
 use crate::setup::Setup;
 use crate::state::State;
-use crate::stream::put_image;
+use crate::stream::{self, put_image};
 
 /// The card's text is refused.
 const BAD_CARD: u64 = 100;
 /// The image is too short.
 const SHORT_IMAGE: u64 = 101;
 
-/// Bytes of the counts, of the port and of a status in an image.
+/// Bytes of the counts that stand before the state image: consumed and written.
 const COUNTS: usize = 16;
-const PORT: usize = 38;
-const STATUS: usize = 18;
 
-/// How long an image of this set-up is.
+/// How long the counts and the state image of this set-up are.
 pub fn image_length(setup: &Setup) -> usize {
-    let words = setup.live_words + setup.cells;
-    COUNTS + PORT + STATUS * setup.statuses + 4 * words
+    COUNTS + stream::image_length(setup)
 }
 
 /// Sets the card up and feeds it the trace in pieces; a piece of 0 stands for the whole trace. Gives the last call's number,
@@ -51,4 +48,46 @@ pub fn run(card: &[u8], trace: &[u8], piece: usize, answers: &mut [u8], image: &
     put_image(&state, &mut bytes);
     image[..bytes.len()].copy_from_slice(&bytes);
     u64::from(number)
+}
+
+#[cfg(test)]
+mod tests {
+    use super::*;
+
+    const CARD: &str = "slots 2\nqueue 3\nbus 01\nport 0008\n\
+        slot 0 reset 000 dlup 000 flr 005 d3hot 000 frs yes\nword 0 74 10000000\n\
+        slot 1 reset 000 dlup 00A flr 000 d3hot 000 frs no\nword 1 0 56781234\n";
+
+    fn u64_at(image: &[u8], at: usize) -> u64 {
+        u64::from_le_bytes(image[at..at + 8].try_into().unwrap())
+    }
+
+    /// The image, byte by byte: counts, 46 of the port, 27 a status, live words, cells.
+    #[test]
+    fn an_image_has_the_layout_of_version_2() {
+        // Visibility and DRS by FRS; link up; 7 ns; FLR of slot 0; half a record.
+        let trace = [0x0B, 0x09, 5, 1, 7, 0, 0, 0, 3, 0, 30, 2, 0, 0x80, 0, 0, 2, 1];
+        let mut answers = [0xEE; 40];
+        let mut image = vec![0xEE; 1000];
+        assert_eq!(run(CARD.as_bytes(), &trace, 4, &mut answers, &mut image), 0);
+        let length = 16 + 46 + 2 * 27 + 4 * (128 + 3);
+        assert_eq!(image_length(&card::read(CARD.as_bytes()).unwrap()), length);
+        assert!(image[length..].iter().all(|byte| *byte == 0xEE));
+        assert_eq!([u64_at(&image, 0), u64_at(&image, 8)], [18, 32]);
+        assert_eq!([u64_at(&image, 16), u64_at(&image, 24)], [7, 0]);
+        assert_eq!(image[32..40], [1, 1, 0, 0, 0, 1, 0, 2]);
+        assert_eq!(image[40..47], [0, 0, 0, 0, 2, 2, 1]);
+        assert_eq!(image[47..62], [0; 15]);
+        for (slot, (phase, cause, ready, flr_end)) in
+            [(1, 2, 12, 12), (1, 1, 10, 0)].into_iter().enumerate()
+        {
+            let status = &image[62 + 27 * slot..62 + 27 * (slot + 1)];
+            assert_eq!(status[..2], [phase, cause]);
+            assert_eq!([u64_at(status, 2), u64_at(status, 10)], [ready, flr_end]);
+            assert_eq!(status[18..], [0; 9]);
+        }
+        assert_eq!(image[116 + 4 * 29..116 + 4 * 30], [0, 0, 0, 0x10]);
+        assert_eq!(image[116 + 4 * 64..116 + 4 * 65], [0x34, 0x12, 0x78, 0x56]);
+        assert_eq!(image[length - 12..length], [0; 12]);
+    }
 }

@@ -1,5 +1,6 @@
 //! Cases made from a seed and a case number.
 
+mod messages;
 pub mod records;
 mod script;
 pub mod setups;
@@ -13,12 +14,13 @@ use script::Script;
 /// The case with this number of this seed.
 pub fn case(seed: u64, number: u64) -> Case {
     let mut random = Random::for_case(seed, number);
-    match random.weighted(&[140, 160, 280, 375, 40, 5]) {
+    match random.weighted(&[140, 160, 280, 375, 40, 50, 5]) {
         0 => bad_set_up(&mut random),
         1 => unsound_state(&mut random),
         2 => made_up_state(&mut random),
         3 => reached_state(&mut random),
         4 => never_set_up(&mut random),
+        5 => messages_alone(&mut random),
         _ => long_trace(&mut random),
     }
 }
@@ -53,7 +55,7 @@ fn unsound_state(random: &mut Random) -> Case {
     finish(setup, |script| {
         let clause = states::any_clause(random);
         let state = states::unsound(random, script.setup(), clause);
-        script.lend(state);
+        script.lend(random, state);
         script.feed_something(random);
         if random.chance(25) {
             script.set_up();
@@ -70,7 +72,7 @@ fn made_up_state(random: &mut Random) -> Case {
             script.set_up();
         }
         let state = states::sound(random, script.setup());
-        script.lend(state);
+        script.lend(random, state);
         let records = 1 + random.below(16);
         script.feed_trace(random, records);
         if random.chance(10) {
@@ -93,6 +95,21 @@ fn reached_state(random: &mut Random) -> Case {
         if random.chance(5) {
             script.set_up();
             script.feed_trace(random, 4);
+        }
+    })
+}
+
+/// Messages written and read, on any set-up, and now and then a feed after them.
+fn messages_alone(random: &mut Random) -> Case {
+    let setup = if random.chance(20) { setups::bad(random) } else { setups::good(random) };
+    finish(setup, |script| {
+        for _ in 0..4 + random.below(24) {
+            script.message(random);
+        }
+        if random.chance(30) {
+            script.set_up();
+            script.message(random);
+            script.feed_something(random);
         }
     })
 }

@@ -1,7 +1,7 @@
 //! Single trace records, chosen with an eye on the state of the bench.
 
 use crate::bench::Bench;
-use crate::messages;
+use crate::generate::messages;
 use crate::random::Random;
 use crate::records::*;
 use crate::setup::{DEVICE_CONTROL, PMCSR};
@@ -132,44 +132,12 @@ fn any_write(random: &mut Random, bench: &Bench) -> Vec<u8> {
     }
 }
 
-fn sound_message(random: &mut Random) -> Vec<u8> {
-    let mut bytes = [0; 16];
-    let ids = [random.u16(), random.u8().into(), 0x0100];
-    let id = random.pick(&ids);
-    let written = match random.below(3) {
-        0 => messages::write(8, id, 0, &mut bytes),
-        _ => messages::write(9, id, random.below(16) as u8, &mut bytes),
-    };
-    written.expect("kind and reason fit");
-    if random.chance(50) {
-        for byte in [2, 3, 6, 8, 9, 13, 14] {
-            bytes[byte] = random.u8();
-        }
-        bytes[1] = random.u8() & 0x8F;
-        bytes[15] |= random.u8() & 0xF0;
+fn any_message(random: &mut Random) -> Vec<u8> {
+    let mut bytes = messages::sound(random);
+    if random.chance(25) {
+        messages::damage(random, &mut bytes);
     }
     [&[MESSAGE], &bytes[..]].concat()
-}
-
-fn damage(random: &mut Random, record: &mut [u8]) {
-    match random.below(8) {
-        0 => record[1 + 12] ^= 1,
-        1 => record[1] ^= 4,
-        2 => record[1 + 1] |= 0x10 << random.below(3),
-        3 => record[1 + 10..1 + 12].copy_from_slice(&[1, 0]),
-        4 => record[1 + random.below(16)] ^= 1 << random.below(8),
-        5 => record[1 + random.pick(&[0, 7, 10, 11, 12])] = random.u8(),
-        6 => record[1 + random.pick(&[0, 7, 10, 11, 12])] ^= 1 << random.below(8),
-        _ => record[1..].fill_with(|| random.u8()),
-    }
-}
-
-fn any_message(random: &mut Random) -> Vec<u8> {
-    let mut record = sound_message(random);
-    if random.chance(25) {
-        damage(random, &mut record);
-    }
-    record
 }
 
 fn control(random: &mut Random) -> Vec<u8> {

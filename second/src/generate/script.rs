@@ -2,7 +2,7 @@
 
 use crate::bench::Bench;
 use crate::faults::Fault;
-use crate::generate::records;
+use crate::generate::{messages, records};
 use crate::random::Random;
 use crate::records::record_length;
 use crate::run::{run_operation, Gave};
@@ -48,8 +48,15 @@ impl<'a> Script<'a> {
         self.push(Operation::SetUp);
     }
 
-    pub fn lend(&mut self, state: State) {
-        self.push(Operation::Lend(Box::new(state)));
+    /// Lends a state; half the time with something in the bytes that are ignored in reading.
+    pub fn lend(&mut self, random: &mut Random, state: State) {
+        let noise = if random.chance(50) { random.u64() } else { 0 };
+        self.push(Operation::Lend { state: Box::new(state), noise });
+    }
+
+    /// Writes a message or reads one, which leaves the state alone.
+    pub fn message(&mut self, random: &mut Random) {
+        self.push(messages::any(random));
     }
 
     /// Lends a state that fits the lengths only.
@@ -62,7 +69,7 @@ impl<'a> Script<'a> {
             live: words(random, setup.live_words),
             cells: words(random, setup.cells),
         };
-        self.lend(state);
+        self.lend(random, state);
     }
 
     /// One feed of a few records, whatever the state.
@@ -161,6 +168,9 @@ impl<'a> Script<'a> {
             };
             let input = &trace[from..from + length.min(4096)];
             let consumed = self.feed_piece(random, input);
+            if random.chance(8) {
+                self.message(random);
+            }
             from += if random.chance(97) { consumed } else { input.len() };
         }
     }

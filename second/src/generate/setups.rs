@@ -46,7 +46,7 @@ fn queue_length(random: &mut Random) -> usize {
 fn entries(random: &mut Random, slots: usize) -> [SlotEntry; MOST_SLOTS] {
     let pool: Vec<Code> = (0..3).map(|_| code(random)).collect();
     let garbage_beyond = random.chance(30);
-    let mut entries = [SlotEntry::ZERO; MOST_SLOTS];
+    let mut entries = [SlotEntry::BLANK; MOST_SLOTS];
     for (slot, entry) in entries.iter_mut().enumerate() {
         let mut next = || match slot < slots {
             true if random.chance(70) => random.pick(&pool),
@@ -59,7 +59,7 @@ fn entries(random: &mut Random, slots: usize) -> [SlotEntry; MOST_SLOTS] {
             dl_up: next(),
             flr: next(),
             d3hot: next(),
-            sends_frs: false,
+            ..SlotEntry::BLANK
         };
         entry.sends_frs = random.chance(75);
     }
@@ -98,6 +98,7 @@ pub fn good(random: &mut Random) -> Setup {
         cells: queue_length(random),
         bus: random.u8(),
         port_id: random.u16(),
+        conventional: false,
         entries: entries(random, slots),
         defaults: defaults(random, slots),
     }
@@ -126,7 +127,7 @@ fn no_slots(setup: &mut Setup, random: &mut Random) {
 }
 
 fn too_many_slots(setup: &mut Setup, random: &mut Random) {
-    setup.slots = random.pick(&[33, 33, 34, 64, 128, 255]);
+    setup.slots = random.pick(&[33, 33, 33, 34, 64, 255]);
     setup.statuses = 32;
     if random.chance(50) {
         setup.live_words = 33 * WORDS_PER_SLOT;
@@ -135,7 +136,7 @@ fn too_many_slots(setup: &mut Setup, random: &mut Random) {
 }
 
 fn spoil_lengths(setup: &mut Setup, random: &mut Random) {
-    match random.weighted(&[3, 6, 6, 6, 1]) {
+    match random.weighted(&[3, 6, 6, 6, 2]) {
         0 => no_slots(setup, random),
         1 => {
             let right = setup.statuses;

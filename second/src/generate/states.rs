@@ -69,6 +69,7 @@ fn port(random: &mut Random, cells: usize) -> Port {
     }
     Port {
         clock: clock(random),
+        reset_at: Nanos(0),
         link: random.chance(85),
         owed: false,
         received: random.chance(50),
@@ -263,7 +264,10 @@ pub fn unsound(random: &mut Random, setup: &Setup, clause: Clause) -> State {
         Clause::Start | Clause::Depth | Clause::LiveCell => {
             break_queue(random, &mut state, clause);
         }
-        Clause::Signalling => state.port.signalling = 3,
+        Clause::Signalling => {
+            let any = 3 + random.below(253) as u8;
+            state.port.signalling = random.pick(&[3, 3, 4, 128, any]);
+        }
         Clause::ReadyPast | Clause::ReadyFar | Clause::FlrEnd => {
             break_ready_time(random, &mut state, clause);
         }

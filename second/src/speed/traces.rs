@@ -1,5 +1,6 @@
 //! The benchmark's traces, made from a seed: each with its card, and so many records long. A longer one starts with the shorter.
 
+use crate::faults::Fault;
 use crate::generate::records::{advance, read, write};
 use crate::messages;
 use crate::random::Random;
@@ -212,12 +213,13 @@ impl Maker {
 
     fn frs(&mut self) {
         let (id, reason) = (self.random.u16(), self.random.below(16) as u8);
-        self.message(9, id, reason);
+        self.message(messages::FRS, id, reason);
     }
 
     fn message(&mut self, kind: u8, id: u16, reason: u8) {
         let mut record = [MESSAGE; 17];
-        messages::write(kind, id, reason, &mut record[1..]).expect("kind and reason fit");
+        let written = messages::write(kind, id, reason, &mut record[1..], Fault::None);
+        written.expect("kind and reason fit");
         self.add(&record);
     }
 
@@ -280,7 +282,7 @@ impl Maker {
     /// Mostly FRS; some DRS, some that are no readiness message.
     fn any_message(&mut self) {
         match self.random.below(20) {
-            0 => self.message(8, 0x0100, 0),
+            0 => self.message(messages::DRS, 0x0100, 0),
             1 => self.add(&[MESSAGE; 17]),
             _ => self.frs(),
         }

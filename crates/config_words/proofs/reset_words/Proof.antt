@@ -3,7 +3,7 @@
 -- Assumes nothing.
 use mathlib.Core.Path.{_≡_, refl, ap, ap₂, _∙_}
 use mathlib.Core.List.{List}
-use Prim.Native.Nat.{ℕ, _≤_, _<_, _-_, _%_, max}
+use Prim.Native.Nat.{ℕ, _≤_, _<_, _-_, _/_, _%_, max}
 use native.Mathlib.Omega.{arith}
 use lib.ListN.{length, getD, set, length-set}
 use borrow.Author.Needs.{needs}
@@ -77,7 +77,7 @@ loop-again c =
       length-set (b .loop .live) n (c .with-defaults .result) ∙ b .loop .inv .2,
       ap₂ (λ (l : List ℕ) (v : ℕ). set l n v) (b .loop .inv .3) (c .with-defaults .ensures
           ∙ ap (λ (t : ℕ). withDefaults t (getD (b .loop .live) n 0) (getD defaults n 0)) (m .mask-in .ensures)
-          ∙ ap (λ (v : ℕ). reset (n % 64) v (getD defaults n 0)) same)
+          ∙ ap (λ (v : ℕ). reset (n / 64) (n % 64) v (getD defaults n 0)) same)
           ∙ one-more reset live defaults (a .from) n (b .loop .inv .0) has given,
     )
 

@@ -1,13 +1,15 @@
 -- `feed::carry_on` meets its contract.
 -- Assumes nothing.
 use borrow.Author.Needs.{needs}
-use mathlib.Core.Path.{_≡_}
+use mathlib.Core.Path.{_≡_, ap}
 use mathlib.Core.List.{_++_}
 use native.Mathlib.Omega.{arith}
 use lib.ListN.{length}
 use denote.Ref.{now}
+use Rattle.trace.proofs.Lists.{length-joined}
+use Rattle.trace.proofs.Loop.{end-few}
+use Rattle.gather.specs.declared.Ending.{Ending}
 use Rattle.demand3.specs.Held.{carriedOf}
-use Rattle.feed.proofs.Ends.{carries-on}
 use Rattle.feed.proofs.carry_on.Statement.{statement}
 use Rattle.feed.proofs.carry_on.Tie as tie
 
@@ -30,14 +32,13 @@ carried-bytes-requires : tie.Need-carried-bytes-requires
 carried-bytes-requires c κs =
     let s = c .before .before .before .before .before .before .before in
     let n : length (s .args .port .carried) ≡ 16 = search needs in
-    let e = c .before .before .ending .ensures .1 in
-    (omega (arith, n, s .pre), e .0, e .1)
+    let t = carriedOf (s .args .port) ++ now (s .args .input) in
+    let e = ap (λ (x : Ending). x .count) (c .before .before .ending .ensures) in
+    let f = end-few t in
+    (omega (arith, n, s .pre), omega (arith, e, f .0), omega (arith, e, f .1, length-joined (s .args .port .carried) (now (s .args .input)) (s .args .port .«carried_len») (omega (arith, n, s .pre))))
 
 returns : tie.Need-returns
-returns c =
-    let x = c .before .before .before .before in
-    let a = x .before .before .before .before .before .args in
-    λ room f. rw (c .before .before .before .past .ensures, c .before .carried-bytes .ensures) (carries-on (a .port) (carriedOf (a .port) ++ now (a .input)) room (x .ending .result) (x .ending .ensures .0 room f))
+returns c = rw (c .before .before .before .past .ensures, c .before .carried-bytes .ensures, c .before .before .before .before .ending .ensures)
 
 pub carry-on-spec : {M : Type 1} → statement M
 carry-on-spec =

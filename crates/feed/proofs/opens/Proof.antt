@@ -43,7 +43,7 @@ sixteen : (c : tie.Start) → length (c .args .port .carried) ≡ 16
 sixteen c = search needs
 
 whole-size-requires : tie.Need-whole-size-requires
-whole-size-requires c κs = let e = c .before .before in (omega (arith, short e, sixteen (entry e)), omega arith)
+whole-size-requires c κs = let e = c .before .before in omega (arith, short e, sixteen (entry e))
 
 returns-2 : tie.Need-returns-2
 returns-2 c =

@@ -75,7 +75,7 @@ one c =
     let n : length t ≡ a .size - 0 = omega (arith, length-take-le (a .size) (carriedOf (a .port) ++ now (a .input)) (there-first j)) in
     c .run-input .ensures
     ∙ ap (λ (l : List ℕ). feeds (a .setup) (now (a .defaults)) (held (opened (a .port .dev)) (statusesIn (now (a .phases))) (now (a .live)) (now (a .cells))) l room)
-    (ap (take (a .size - 0)) (c .before .before .before .before .before .before .before .copy .ensures) ∙ take-at t (replicate (longest - length t) 0) (a .size - 0) n ∙ bytes-first j)
+    (ap (take (a .size - 0)) (c .before .before .before .before .before .before .before .first-bytes .ensures) ∙ take-at t (replicate (longest - length t) 0) (a .size - 0) n ∙ bytes-first j)
     ∙ first-call j room (length-take-le 8 (now (a .answers)) (room-first j))
 
 -- what is lent then
@@ -98,11 +98,11 @@ length-slice c =
 room-left : (c : tie.After-run-input) → 8 ≤ length (slice c)
 room-left c = omega (arith, length-slice c, room-first (joins (back c)))
 
-slice-aggregate-copy : tie.Need-slice-aggregate-copy
-slice-aggregate-copy c = search needs
+slice-aggregate-first-bytes : tie.Need-slice-aggregate-first-bytes
+slice-aggregate-first-bytes c = search needs
 
-copy-requires : tie.Need-copy-requires
-copy-requires c κs = (omega (arith, relies (entry c) .short, sixteen (entry c)), few-first (joins c), omega (arith, there-first (joins c), length-trace c))
+first-bytes-requires : tie.Need-first-bytes-requires
+first-bytes-requires c κs = (omega (arith, relies (entry c) .short, sixteen (entry c)), few-first (joins c), omega (arith, there-first (joins c), length-trace c))
 
 sub-missing : tie.Need-sub-missing
 sub-missing c = carried-less (joins (c .before))
@@ -247,8 +247,8 @@ pub run-joined-spec : {M : Type 1} → statement M
 run-joined-spec =
     tie.close
     (tie.spec
-    slice-aggregate-copy
-    copy-requires
+    slice-aggregate-first-bytes
+    first-bytes-requires
     sub-missing
     sub-run-input
     part-run-input-start

@@ -1,4 +1,4 @@
--- `card::digit_of` meets its contract: a case for each range of bytes. Assumes nothing.
+-- `fields::digit_of` meets its contract: a case for each range of bytes. Assumes nothing.
 use mathlib.Core.Path.{_≡_, sym, ap, _∙_}
 use mathlib.Core.Bool.{Bool, _&&_}
 use Prim.Native.Nat.{_≤_}

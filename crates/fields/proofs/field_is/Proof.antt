@@ -1,4 +1,4 @@
--- `card::field_is` meets its contract: the part of the line between start and end is the field. Assumes nothing.
+-- `fields::field_is` meets its contract: the part of the line between start and end is the field. Assumes nothing.
 use mathlib.Core.Path.{_≡_, ap, _∙_}
 use mathlib.Core.List.{List}
 use Prim.Native.Nat.{ℕ, _≤_}

@@ -1,4 +1,4 @@
--- `card::field_start` meets its contract. The loop's invariant: field i starts at `at`. Assumes nothing.
+-- `fields::field_start` meets its contract. The loop's invariant: field i starts at `at`. Assumes nothing.
 use mathlib.Core.Path.{_≡_, refl, sym, ap, _∙_}
 use Prim.Native.Nat.{ℕ, _-_, _≤_}
 use native.Mathlib.Numerals.{add-one}

@@ -1,4 +1,4 @@
--- `card::in_field` meets its contract. Assumes nothing.
+-- `fields::in_field` meets its contract. Assumes nothing.
 use borrow.Author.Needs.{needs}
 use Rattle.fields.specs.Text.{inField}
 use Rattle.fields.proofs.in_field.Statement.{statement}

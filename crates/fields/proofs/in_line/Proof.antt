@@ -1,4 +1,4 @@
--- `card::in_line` meets its contract. Assumes nothing.
+-- `fields::in_line` meets its contract. Assumes nothing.
 use borrow.Author.Needs.{needs}
 use Rattle.fields.specs.Text.{inLine}
 use Rattle.fields.proofs.in_line.Statement.{statement}

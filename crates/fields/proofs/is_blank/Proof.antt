@@ -1,4 +1,4 @@
--- `card::is_blank` meets its contract. Assumes nothing.
+-- `fields::is_blank` meets its contract. Assumes nothing.
 use borrow.Author.Needs.{needs}
 use Rattle.fields.specs.Text.{isBlank}
 use Rattle.fields.proofs.is_blank.Statement.{statement}

@@ -1,4 +1,4 @@
--- `card::no_field` meets its contract. Assumes nothing.
+-- `fields::no_field` meets its contract. Assumes nothing.
 use mathlib.Core.Path.{_≡_, ap₂}
 use denote.Ref.{now}
 use lib.Dec.{eqb}

@@ -1,4 +1,4 @@
--- `card::number_at` meets its contract: the part of the line between start and end is the field. Assumes nothing.
+-- `fields::number_at` meets its contract: the part of the line between start and end is the field. Assumes nothing.
 use mathlib.Core.Path.{_≡_, ap, _∙_}
 use mathlib.Core.List.{List}
 use Prim.Native.Nat.{ℕ, _≤_}

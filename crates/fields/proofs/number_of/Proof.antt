@@ -1,4 +1,4 @@
--- `card::number_of` meets its contract. The loop's invariant: the digits left, read on, give the number; i digits are below 16^i.
+-- `fields::number_of` meets its contract. The loop's invariant: the digits left, read on, give the number; i digits are below 16^i.
 -- Assumes nothing.
 use mathlib.Core.Path.{_≡_, refl, sym, ap, _∙_}
 use mathlib.Core.Bool.{Bool, true, false, cond}
@@ -47,11 +47,11 @@ loop-holds c =
       simp wide,
     )
 
-shared-slice-read-digit-of : tie.Need-shared-slice-read-digit-of Inv-loop μ-loop
-shared-slice-read-digit-of c = search needs
+shared-slice-read-digit-value : tie.Need-shared-slice-read-digit-value Inv-loop μ-loop
+shared-slice-read-digit-value c = search needs
 
-digit-of-requires : tie.Need-digit-of-requires Inv-loop μ-loop
-digit-of-requires c κs = search needs
+digit-value-requires : tie.Need-digit-value-requires Inv-loop μ-loop
+digit-value-requires c κs = search needs
 
 -- the number with one digit more fits
 more : (hex : Bool) (base v i d : ℕ) → base ≡ baseOf hex → v < 16 ^ i → i < 8 → d < 16 → v * base + d < 4294967296
@@ -67,7 +67,7 @@ add-value : tie.Need-add-value Inv-loop μ-loop
 add-value c =
     let reached = c .before .before .before .before in
     let l = reached .loop in
-    omega (arith, more (reached .before .before .before .before .before .args .hex) (reached .before .base-of .result) (l .value) (l .i) (c .before .digit-of .result) (l .inv .2) (l .inv .3) (omega arith) (c .if2 .taken))
+    omega (arith, more (reached .before .before .before .before .before .args .hex) (reached .before .base-of .result) (l .value) (l .i) (c .before .digit-value .result) (l .inv .2) (l .inv .3) (omega arith) (c .if2 .taken))
 
 add-i : tie.Need-add-i Inv-loop μ-loop
 add-i c = search needs
@@ -85,8 +85,8 @@ loop-again c =
     let l = reached .loop in
     let args = reached .before .before .before .before .before .args in
     let b = reached .before .base-of .result in
-    let d : ℕ = c .before .digit-of .result in
-    let is : d ≡ digitOf (args .hex) (getD (now (args .s)) (l .i) 0) = c .before .digit-of .ensures in
+    let d : ℕ = c .before .digit-value .result in
+    let is : d ≡ digitOf (args .hex) (getD (now (args .s)) (l .i) 0) = c .before .digit-value .ensures in
     let small : digitOf (args .hex) (getD (now (args .s)) (l .i) 0) < 16 = omega arith in (
       omega arith,
       l .inv .1,
@@ -121,8 +121,8 @@ number-of-spec =
     returns
     base-of-requires
     loop-holds
-    shared-slice-read-digit-of
-    digit-of-requires
+    shared-slice-read-digit-value
+    digit-value-requires
     mul-value
     add-value
     add-i

@@ -1,4 +1,4 @@
--- `card::width_allowed` meets its contract. Assumes nothing.
+-- `fields::width_allowed` meets its contract. Assumes nothing.
 use borrow.Author.Needs.{needs}
 use Rattle.fields.specs.Text.{widthAllowed}
 use Rattle.fields.proofs.width_allowed.Statement.{statement}

@@ -1,13 +1,9 @@
 -- `frs_queue::arrive` meets its contract.
 -- Assumes nothing.
-use mathlib.Core.Path.{sym, subst}
-use Prim.Native.Nat.{ℕ, _<_}
 use native.Mathlib.Omega.{arith}
-use lib.ListN.{length}
 use borrow.Author.Needs.{needs}
 use borrow.Author.Tests.{lt-ltb, le-ltb}
 use Rattle.frs_queue.specs.Queue.{arrives, queues, drops}
-use Rattle.frs_queue.proofs.Places.{place-lt}
 use Rattle.frs_queue.proofs.arrive.Statement.{statement}
 use Rattle.frs_queue.proofs.arrive.Tie as tie
 
@@ -17,15 +13,11 @@ place-requires c κs = search needs
 cell-value-requires : tie.Need-cell-value-requires
 cell-value-requires c κs = search needs
 
-in-ring : tie.Need-slice-write-cells
-in-ring c =
-    subst (λ (x : ℕ). x < length (c .before .before .before .before .args .cells .now)) (sym (c .before .place .ensures)) (place-lt _ _ _ (omega arith))
-
 mul-cells : tie.Need-mul-cells
-mul-cells c = omega (arith, in-ring c)
+mul-cells c = omega (arith, c .before .place .ensures .1)
 
 slice-write-cells : tie.Need-slice-write-cells
-slice-write-cells c = in-ring c
+slice-write-cells c = c .before .place .ensures .1
 
 add-more : tie.Need-add-more
 add-more c = search needs
@@ -41,7 +33,7 @@ same-length c = search needs
 
 returns : tie.Need-returns
 unfolding arrives queues
-returns c = simp (lt-ltb _ _ (c .before .before .before .if1 .taken), c .before .before .place .ensures, c .before .cell-value .ensures, c .tally-queued .ensures)
+returns c = simp (lt-ltb _ _ (c .before .before .before .if1 .taken), c .before .before .place .ensures .0, c .before .cell-value .ensures, c .tally-queued .ensures)
 
 returns-2 : tie.Need-returns-2
 unfolding arrives drops

@@ -1,14 +1,12 @@
 -- `frs_queue::register` meets its contract: of the depth only the low 12 bits reach the word.
 -- Assumes nothing.
-use mathlib.Core.Path.{_≡_, sym, subst}
+use mathlib.Core.Path.{_≡_}
 use mathlib.Core.Bool.{or-true}
-use Prim.Native.Nat.{ℕ, _+_, _*_, _%_, _<_}
+use Prim.Native.Nat.{ℕ, _+_, _*_, _%_}
 use native.Mathlib.Omega.{arith}
-use lib.ListN.{length}
 use borrow.Author.Needs.{needs}
 use borrow.Author.Tests.{eq-eqb, ne-eqb}
 use Rattle.frs_queue.specs.Queue.{registerOf}
-use Rattle.frs_queue.proofs.Places.{place-lt}
 use Rattle.frs_queue.proofs.register.Statement.{statement}
 use Rattle.frs_queue.proofs.register.Tie as tie
 
@@ -26,17 +24,14 @@ returns-2 c = simp (eq-eqb _ 0 (c .if2 .taken), or-true)
 place-requires : tie.Need-place-requires
 place-requires c κs = search needs
 
-in-ring : (c : tie.After-place) → c .place .result < length (c .before .before .before .before .args .cells .now)
-in-ring c = subst (λ (x : ℕ). x < length (c .before .before .before .before .args .cells .now)) (sym (c .place .ensures)) (place-lt _ _ _ (omega arith))
-
 mul-shown : tie.Need-mul-shown
 mul-shown c = search needs
 
 mul-shown-2 : tie.Need-mul-shown-2
-mul-shown-2 c = omega (arith, in-ring c)
+mul-shown-2 c = omega (arith, c .place .ensures .1)
 
 shared-slice-read-shown : tie.Need-shared-slice-read-shown
-shared-slice-read-shown c = in-ring (c .before)
+shared-slice-read-shown c = c .before .place .ensures .1
 
 cast-shown : tie.Need-cast-shown
 cast-shown c = omega (arith, c .shared-slice-known2 .given (c .before .place .result))
@@ -49,7 +44,7 @@ cast-result c = search needs
 
 returns-3 : tie.Need-returns-3
 unfolding registerOf
-returns-3 c = simp (ne-eqb _ 0 (c .before .before .before .if1 .left), ne-eqb _ 0 (c .before .before .if2 .left), c .before .place .ensures, low-bits)
+returns-3 c = simp (ne-eqb _ 0 (c .before .before .before .if1 .left), ne-eqb _ 0 (c .before .before .if2 .left), c .before .place .ensures .0, low-bits)
 
 pub register-spec : {M : Type 1} → statement M
 register-spec =

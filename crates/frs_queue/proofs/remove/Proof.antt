@@ -23,7 +23,7 @@ sub-depth c = search needs
 
 returns-3 : tie.Need-returns-3
 unfolding removed
-returns-3 c = simp (ne-eqb _ 0 (c .before .before .before .if1 .left), ne-eqb _ 0 (c .before .before .if2 .left), c .before .place .ensures)
+returns-3 c = simp (ne-eqb _ 0 (c .before .before .before .if1 .left), ne-eqb _ 0 (c .before .before .if2 .left), c .before .place .ensures .0)
 
 pub remove-spec : {M : Type 1} → statement M
 remove-spec = tie.close (tie.spec returns returns-2 place-requires sub-depth returns-3)

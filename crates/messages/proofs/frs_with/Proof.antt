@@ -5,16 +5,16 @@ use borrow.Author.Needs.{needs}
 use Rattle.messages.proofs.frs_with.Statement.{statement}
 use Rattle.messages.proofs.frs_with.Tie as tie
 
-reason-allowed-requires : tie.Need-reason-allowed-requires
-reason-allowed-requires c κs = search needs
+frs-allowed-requires : tie.Need-frs-allowed-requires
+frs-allowed-requires c κs = search needs
 
 returns : tie.Need-returns
 unfolding frsWith
-returns c = simp (sym (c .before .reason-allowed .ensures) ∙ c .if1 .taken)
+returns c = simp (sym (c .before .frs-allowed .ensures) ∙ c .if1 .taken)
 
 returns-2 : tie.Need-returns-2
 unfolding frsWith
-returns-2 c = simp (sym (c .before .reason-allowed .ensures) ∙ c .if1 .left)
+returns-2 c = simp (sym (c .before .frs-allowed .ensures) ∙ c .if1 .left)
 
 pub frs-with-spec : {M : Type 1} → statement M
-frs-with-spec = tie.close (tie.spec reason-allowed-requires returns returns-2)
+frs-with-spec = tie.close (tie.spec frs-allowed-requires returns returns-2)

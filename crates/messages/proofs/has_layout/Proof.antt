@@ -1,6 +1,11 @@
 -- `messages::has_layout` meets its contract: the checks in their order. Assumes nothing.
+use mathlib.Core.Path.{sym, ap, _∙_}
+use mathlib.Core.Bool.{and-false}
+use Prim.Native.Nat.{ℕ}
+use lib.Dec.{eqb}
 use Rattle.messages.specs.Messages.{layout}
 use borrow.Author.Needs.{needs}
+use borrow.Author.Tests.{ne-eqb}
 use Rattle.messages.proofs.has_layout.Statement.{statement}
 use Rattle.messages.proofs.has_layout.Tie as tie
 
@@ -29,6 +34,12 @@ returns : tie.Need-returns
 unfolding layout
 returns c = cc
 
+returns-2 : tie.Need-returns-2
+unfolding layout
+returns-2 c =
+    let kind = c .before .before .before .args .kind in
+    simp (sym (ap (λ (x : ℕ). eqb x kind) (c .before .byte-at .ensures)) ∙ ne-eqb (c .before .byte-at .result) kind (c .if1 .left), and-false)
+
 pub has-layout-spec : {M : Type 1} → statement M
 has-layout-spec =
     tie.close
@@ -40,4 +51,5 @@ has-layout-spec =
     byte-at-requires-4
     byte-at-requires-5
     subtype-of-requires
-    returns)
+    returns
+    returns-2)

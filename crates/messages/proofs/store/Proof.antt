@@ -7,7 +7,7 @@ use native.Mathlib.Omega.{arith}
 use Prim.Native.Nat.{ℕ, _+_, _-_, _≤_, _<_}
 use lib.ListN.{length, getD, length-set}
 use Rattle.messages.specs.Messages.{stored, left}
-use Rattle.messages.proofs.Front.{front, front-more, front-all}
+use Rattle.bits.proofs.Lists.{front, front-more, front-all}
 use Rattle.messages.proofs.store.Statement.{statement}
 use Rattle.messages.proofs.store.Tie as tie
 
@@ -44,7 +44,7 @@ loop-again c =
       omega arith,
       l .inv .1,
       length-set (l .room) (l .i) (getD (a .t1) (l .i) 0) ∙ l .inv .2,
-      rw (l .inv .3) (front-more (l .i) (a .t1) (now (a .room)) (omega arith) (omega arith)),
+      rw (l .inv .3) (front-more (l .i) (a .t1) (now (a .room)) 0 (omega arith) (omega arith)),
     )
 
 same-length : tie.Need-same-length Inv-loop μ-loop

@@ -6,8 +6,9 @@ use lib.ListN.{replicate}
 use denote.Ref.{now}
 use borrow.Author.Needs.{needs}
 use Rattle.readiness.specs.Status.{down}
+use Rattle.records.specs.Blank.{blankPort}
 use Rattle.demand3.specs.Held.{Held, held, lentOf}
-use Rattle.demand3.specs.SettingUp.{Prepared, freshPort, setsUp}
+use Rattle.demand3.specs.SettingUp.{Prepared, setsUp}
 use Rattle.set_up.specs.Prepared.{prepared}
 use Rattle.demand3.proofs.Numbers.{set-up-facts}
 use Rattle.demand3.proofs.Prepared.{set-up-number}
@@ -21,7 +22,7 @@ entry c = c .before .before .before .before .before .before .before .before .bef
 
 -- what the set-up is lent
 abbrev lent : tie.After-set-up → Held
-lent c = let a = entry c .args in held freshPort (lentOf (a .setup .slots) (replicate 32 down)) (now (a .live)) (now (a .cells))
+lent c = let a = entry c .args in held blankPort (lentOf (a .setup .slots) (replicate 32 down)) (now (a .live)) (now (a .cells))
 
 -- what it leaves
 abbrev leaves : tie.After-set-up → Prepared
@@ -31,10 +32,10 @@ made : (c : tie.After-set-up) → leaves c ≡ setsUp (entry c .args .setup) (no
 made c =
     let a = entry c .args in
     c .set-up .ensures
-    ∙ λ i. setsUp (a .setup) (now (a .defaults)) (held (c .before .before .before .before .zero-port .ensures i) (lentOf (a .setup .slots) (c .before .before .before .all-down .ensures i)) (now (a .live)) (now (a .cells)))
+    ∙ λ i. setsUp (a .setup) (now (a .defaults)) (held (c .before .before .before .before .blank-port .ensures i) (lentOf (a .setup .slots) (c .before .before .before .all-down .ensures i)) (now (a .live)) (now (a .cells)))
 
-zero-port-requires : tie.Need-zero-port-requires
-zero-port-requires c κs = search needs
+blank-port-requires : tie.Need-blank-port-requires
+blank-port-requires c κs = search needs
 
 all-down-requires : tie.Need-all-down-requires
 all-down-requires c κs = search needs
@@ -86,7 +87,7 @@ pub run-over-spec : {M : Type 1} → statement M
 run-over-spec =
     tie.close
     (tie.spec
-    zero-port-requires
+    blank-port-requires
     all-down-requires
     set-up-requires
     all-fed-requires

@@ -1,10 +1,12 @@
 -- `set_up::set_up` meets its contract.
 -- Assumes nothing.
 use native.Mathlib.Omega.{arith}
-use mathlib.Core.Path.{_≡_, sym, _∙_}
+use mathlib.Core.Path.{_≡_, sym, ap, _∙_}
 use lib.ListN.{length}
 use denote.Ref.{now}
 use borrow.Author.Needs.{needs}
+use Rattle.readiness.specs.declared.Dev.{Dev}
+use Rattle.readiness.specs.Status.{stoppedByReset}
 use Rattle.demand3.specs.Held.{Held, held, lentOf}
 use Rattle.demand3.specs.Refusals.{setUpRefusal}
 use Rattle.demand3.specs.SettingUp.{Prepared}
@@ -43,8 +45,11 @@ cold-reset-requires c κs = search needs
 clear-cells-requires : tie.Need-clear-cells-requires
 clear-cells-requires c κs = search needs
 
-fresh-port-requires : tie.Need-fresh-port-requires
-fresh-port-requires c κs = search needs
+blank-port-requires : tie.Need-blank-port-requires
+blank-port-requires c κs = search needs
+
+blank-dev-requires : tie.Need-blank-dev-requires
+blank-dev-requires c κs = search needs
 
 reset-statuses-requires : tie.Need-reset-statuses-requires
 reset-statuses-requires c κs = search needs
@@ -57,14 +62,14 @@ same-length-2 c = search needs
 
 returns-2 : tie.Need-returns-2
 returns-2 c =
-    let r = c .before .before .before .before .before .before .before .before .before .before in
+    let r = c .before .before .before .before .before .before .before .before .before .before .before in
     let s = r .before .before .before .before .before in
     let f = fits r in
     let a : length (s .args .statuses) ≡ 32 = search needs in
-    let p = c .before .fresh-port .ensures in
-    let t = c .reset-statuses .ensures in
-    let l = c .before .before .before .before .before .before .before .before .cold-reset .ensures in
-    let k = c .before .before .before .before .clear-cells .ensures in
+    let p = c .before .before .blank-port .ensures in
+    let t = c .reset-statuses .ensures ∙ ap (λ (d : Dev). stoppedByReset (s .args .setup) d (s .args .statuses)) (c .before .blank-dev .ensures) in
+    let l = c .before .before .before .before .before .before .before .before .before .cold-reset .ensures in
+    let k = c .before .before .before .before .before .clear-cells .ensures in
     _∙_ {A = Prepared} (λ i. record { number = 0; held = held (p i) (lentOf (s .args .lent) (t i)) (l i) (k i) })
     (fresh-left (s .args .setup) (now (s .args .defaults)) (s .args .port) (s .args .lent) (s .args .statuses) (now (s .args .live)) (now (s .args .cells)) (omega (arith, f .most, f .perSlot)) (omega (arith, f .words, f .defaultWords))
     ∙ sym (set-up-yes (s .args .setup) (now (s .args .defaults)) (lent s) (sym (number-is (r .before)) ∙ r .if1 .left)))
@@ -77,7 +82,8 @@ set-up-spec =
     returns
     cold-reset-requires
     clear-cells-requires
-    fresh-port-requires
+    blank-port-requires
+    blank-dev-requires
     reset-statuses-requires
     same-length
     same-length-2

@@ -5,7 +5,8 @@ use native.Mathlib.Omega.{arith}
 use mathlib.Core.Bool.{true, false}
 use mathlib.Core.Path.{_≡_, refl, sym, ap, _∙_}
 use lib.ListN.{drop}
-use Rattle.readiness.specs.Status.{isReady, allReady}
+use Rattle.readiness.specs.declared.Setup.{Setup}
+use Rattle.readiness.specs.Status.{isReady, allReadyFrom, allReady}
 use Rattle.readiness.specs.Phases.{statusesIn}
 use Rattle.settle.proofs.Statuses.{ready-cons, ready-end}
 use borrow.Author.Needs.{needs}
@@ -13,13 +14,13 @@ use Rattle.settle.proofs.all_ready.Statement.{statement}
 use Rattle.settle.proofs.all_ready.Tie as tie
 
 abbrev Inv-loop : tie.InvT-loop
-Inv-loop slots phases i₀ i = (i ≤ slots) × (allReady (drop i (statusesIn phases)) ≡ allReady (statusesIn phases))
+Inv-loop slots phases i₀ i = (i ≤ slots) × ((setup : Setup) → allReadyFrom setup i (drop i (statusesIn phases)) ≡ allReady setup (statusesIn phases))
 
 abbrev μ-loop : tie.MeasureT-loop
 μ-loop slots phases i₀ i = slots - i
 
 loop-holds : tie.Need-loop-holds Inv-loop μ-loop
-loop-holds c = (omega arith, refl)
+loop-holds c = (omega arith, λ setup. refl)
 
 status-at-requires : tie.Need-status-at-requires Inv-loop μ-loop
 status-at-requires c κs = omega arith
@@ -36,17 +37,17 @@ loop-less c = omega arith
 loop-again : tie.Need-loop-again Inv-loop μ-loop
 loop-again c =
     let at = c .before .before .before .before in
-    (omega arith, sym (ready-cons (statusesIn (at .before .before .args .phases .now)) _ (at .loop .i) true (omega arith) (ap isReady (sym (c .before .before .status-at .ensures)) ∙ sym (c .before .is-ready .ensures) ∙ c .if1 .taken)) ∙ at .loop .inv .1)
+    (omega arith, λ setup. sym (ready-cons setup (statusesIn (at .before .before .args .phases .now)) _ (at .loop .i) true (omega arith) (ap isReady (sym (c .before .before .status-at .ensures)) ∙ sym (c .before .is-ready .ensures) ∙ c .if1 .taken)) ∙ at .loop .inv .1 setup)
 
 returns : tie.Need-returns Inv-loop μ-loop
 returns c =
     let at = c .before .before .before .before in
-    sym (ready-cons (statusesIn (at .before .before .args .phases .now)) _ (at .loop .i) false (omega arith) (ap isReady (sym (c .before .before .status-at .ensures)) ∙ sym (c .before .is-ready .ensures) ∙ c .if1 .left)) ∙ at .loop .inv .1
+    λ setup n. sym (ready-cons setup (statusesIn (at .before .before .args .phases .now)) _ (at .loop .i) false (omega arith) (ap isReady (sym (c .before .before .status-at .ensures)) ∙ sym (c .before .is-ready .ensures) ∙ c .if1 .left)) ∙ at .loop .inv .1 setup
 
 returns-2 : tie.Need-returns-2 Inv-loop μ-loop
 returns-2 c =
     let at = c .before in
-    sym (ready-end (statusesIn (at .before .before .args .phases .now)) (at .loop .i) (omega arith)) ∙ at .loop .inv .1
+    λ setup n. sym (ready-end setup (statusesIn (at .before .before .args .phases .now)) (at .loop .i) (omega arith)) ∙ at .loop .inv .1 setup
 
 pub all-ready-spec : {M : Type 1} → statement M
 all-ready-spec =

@@ -14,14 +14,14 @@ abbrev μ-loop : tie.MeasureT-loop
 loop-holds : tie.Need-loop-holds Inv-loop μ-loop
 loop-holds c = search needs
 
-mul-is-yes-or-no : tie.Need-mul-is-yes-or-no Inv-loop μ-loop
-mul-is-yes-or-no c = search needs
+mul-is-good-entry : tie.Need-mul-is-good-entry Inv-loop μ-loop
+mul-is-good-entry c = search needs
 
-add-is-yes-or-no : tie.Need-add-is-yes-or-no Inv-loop μ-loop
-add-is-yes-or-no c = search needs
+add-is-good-entry : tie.Need-add-is-good-entry Inv-loop μ-loop
+add-is-good-entry c = search needs
 
-is-yes-or-no-requires : tie.Need-is-yes-or-no-requires Inv-loop μ-loop
-is-yes-or-no-requires c κs = search needs
+is-good-entry-requires : tie.Need-is-good-entry-requires Inv-loop μ-loop
+is-good-entry-requires c κs = search needs
 
 add-i : tie.Need-add-i Inv-loop μ-loop
 add-i c = search needs
@@ -42,9 +42,9 @@ are-good-entries-spec =
     Inv-loop
     μ-loop
     loop-holds
-    mul-is-yes-or-no
-    add-is-yes-or-no
-    is-yes-or-no-requires
+    mul-is-good-entry
+    add-is-good-entry
+    is-good-entry-requires
     add-i
     loop-less
     loop-again

@@ -13,8 +13,8 @@ Inv-loop front entries₀ i₀ entries i = (i ≤ 32) × (length entries ≡ 32)
 abbrev μ-loop : tie.MeasureT-loop
 μ-loop front entries₀ i₀ entries i = 32 - i
 
-no-entries-requires : tie.Need-no-entries-requires Inv-loop μ-loop
-no-entries-requires c κs = search needs
+blank-slot-requires : tie.Need-blank-slot-requires Inv-loop μ-loop
+blank-slot-requires c κs = search needs
 
 loop-holds : tie.Need-loop-holds Inv-loop μ-loop
 loop-holds c = search needs
@@ -52,7 +52,7 @@ entries-in-spec =
     (tie.spec
     Inv-loop
     μ-loop
-    no-entries-requires
+    blank-slot-requires
     loop-holds
     mul-entry-in
     add-entry-in

@@ -18,8 +18,8 @@ first-turn-requires c κs = search needs
 loop-holds : tie.Need-loop-holds Inv-loop μ-loop
 loop-holds c = search needs
 
-operation-byte-requires : tie.Need-operation-byte-requires Inv-loop μ-loop
-operation-byte-requires c κs = search needs
+byte-or-255-requires : tie.Need-byte-or-255-requires Inv-loop μ-loop
+byte-or-255-requires c κs = search needs
 
 operate-requires : tie.Need-operate-requires Inv-loop μ-loop
 operate-requires c κs = search needs
@@ -59,7 +59,7 @@ run-operations-spec =
     μ-loop
     first-turn-requires
     loop-holds
-    operation-byte-requires
+    byte-or-255-requires
     operate-requires
     sub-turns
     loop-less

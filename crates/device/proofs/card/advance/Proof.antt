@@ -7,13 +7,14 @@ use Prim.Native.Nat.{_≤_, _<_}
 use lib.Dec.{leb}
 use borrow.Author.Tests.{le-leb, lt-leb}
 use Rattle.times.specs.declared.Nanos.{Nanos}
-use Rattle.times.specs.Moments.{sumOf}
+use Rattle.times.specs.Moments.{sumOf, clockEnd}
 use Rattle.frs_queue.specs.Queue.{noTally}
 use Rattle.readiness.specs.declared.Dev.{Dev}
 use Rattle.records.specs.State.{state}
 use Rattle.records.specs.Answer.{does}
-use Rattle.records.specs.CardRecords.{clockEnd, withClock, advanceEffect}
-use Rattle.device.proofs.Choices.{when-true, when-false}
+use Rattle.readiness.specs.Fields.{withClock}
+use Rattle.records.specs.CardRecords.{advanceEffect}
+use Rattle.bits.proofs.Choices.{when-true, when-false}
 use Rattle.device.proofs.card.advance.Statement.{statement}
 use Rattle.device.proofs.card.advance.Tie as tie
 

@@ -7,14 +7,15 @@ use Prim.Native.Nat.{_≤_, _<_}
 use lib.Dec.{leb}
 use borrow.Author.Tests.{le-leb, lt-leb}
 use Rattle.times.specs.declared.Nanos.{Nanos}
-use Rattle.times.specs.Moments.{sumOf}
+use Rattle.times.specs.Moments.{sumOf, clockEnd}
 use Rattle.readiness.specs.declared.Dev.{Dev}
 use Rattle.records.specs.declared.Reply.{Reply}
 use Rattle.records.specs.State.{state}
 use Rattle.records.specs.Answer.{answered}
-use Rattle.records.specs.CardRecords.{clockEnd, withClock, advanceEffect}
+use Rattle.readiness.specs.Fields.{withClock}
+use Rattle.records.specs.CardRecords.{advanceEffect}
 use Rattle.records.specs.Parts.{cardEffect, cardRun}
-use Rattle.device.proofs.Choices.{when-true, when-false}
+use Rattle.bits.proofs.Choices.{when-true, when-false}
 use Rattle.device.proofs.Resting.{rest-answered}
 use Rattle.device.proofs.card.advance_alone.Statement.{statement}
 use Rattle.device.proofs.card.advance_alone.Tie as tie

@@ -1,21 +1,16 @@
 -- `device::card::link_down` meets its contract.
 -- Assumes nothing.
 use borrow.Author.Needs.{needs}
-use mathlib.Core.Path.{refl, ap, sym, _∙_}
+use mathlib.Core.Path.{refl, sym, _∙_}
 use mathlib.Core.Bool.{false≢true}
-use Rattle.registers.specs.declared.Kind.{Kind}
-use Rattle.config_space.specs.Functions.{linkResetAll}
 use Rattle.records.specs.CardRecords.{linkDownEffect}
-use Rattle.device.proofs.Choices.{when-true, when-false}
+use Rattle.bits.proofs.Choices.{when-true, when-false}
 use Rattle.device.proofs.Answers.{alike}
 use Rattle.device.proofs.card.link_down.Statement.{statement}
 use Rattle.device.proofs.card.link_down.Tie as tie
 
-card-kind-requires : tie.Need-card-kind-requires
-card-kind-requires c κs = search needs
-
-link-reset-all-requires : tie.Need-link-reset-all-requires
-link-reset-all-requires c κs = search needs
+reset-links-requires : tie.Need-reset-links-requires
+reset-links-requires c κs = search needs
 
 stop-all-requires : tie.Need-stop-all-requires
 stop-all-requires c κs = search needs
@@ -33,9 +28,8 @@ returns : tie.Need-returns
 unfolding linkDownEffect
 returns c =
     let reset = c .before .before .before .before .before .before .before in
-    let kind = reset .before .before in
-    let a = kind .before .before .before .before .before .args in
-    (λ cells. alike cells (c .after-link-down .ensures) (c .before .before .before .stop-all .ensures) (reset .link-reset-all .ensures ∙ ap (λ (k : Kind). linkResetAll k (a .live .now) (a .defaults .now)) (kind .card-kind .ensures)) ∙ sym (when-true (a .dev .link) _ _ (kind .before .if1 .taken)), λ e. absurd (false≢true e))
+    let a = reset .before .before .before .before .before .before .args in
+    (λ cells. alike cells (c .after-link-down .ensures) (c .before .before .before .stop-all .ensures) (reset .reset-links .ensures) ∙ sym (when-true (a .dev .link) _ _ (reset .before .before .if1 .taken)), λ e. absurd (false≢true e))
 
 returns-2 : tie.Need-returns-2
 unfolding linkDownEffect
@@ -46,8 +40,7 @@ pub link-down-spec : {M : Type 1} → statement M
 link-down-spec =
     tie.close
     (tie.spec
-    card-kind-requires
-    link-reset-all-requires
+    reset-links-requires
     stop-all-requires
     after-link-down-requires
     same-length

@@ -4,7 +4,7 @@ use borrow.Author.Needs.{needs}
 use mathlib.Core.Path.{refl, sym, _∙_}
 use mathlib.Core.Bool.{false≢true}
 use Rattle.records.specs.CardRecords.{linkUpEffect}
-use Rattle.device.proofs.Choices.{when-true, when-false}
+use Rattle.bits.proofs.Choices.{when-true, when-false}
 use Rattle.device.proofs.Answers.{alike}
 use Rattle.device.proofs.card.link_up.Statement.{statement}
 use Rattle.device.proofs.card.link_up.Tie as tie

@@ -7,7 +7,7 @@ use Rattle.device.proofs.port.clear_bits.Tie as tie
 
 returns : tie.Need-returns
 unfolding clearedDev
-returns c = let m = c .before .before .before .before .before .before .args .mask in rw (bit-test m 2, bit-test m 0, bit-test m 1)
+returns c = let m = c .before .before .before .before .args .mask in rw (bit-test m 2, bit-test m 0, bit-test m 1)
 
 pub clear-bits-spec : {M : Type 1} → statement M
 clear-bits-spec = tie.close (tie.spec returns)

@@ -8,7 +8,8 @@ use Rattle.records.specs.declared.PortDone.{PortDone}
 use Rattle.records.specs.declared.Completion.the-variants as completion
 use Rattle.records.specs.Answer.{reply}
 use Rattle.frs_queue.specs.Queue.{noTally}
-use Rattle.records.specs.PortRecords.{controlEffect, withControl}
+use Rattle.readiness.specs.Fields.{withControl}
+use Rattle.records.specs.PortRecords.{controlEffect}
 use Rattle.records.specs.Parts.{portAnswered, portRan}
 use Rattle.device.proofs.port.control_record.Statement.{statement}
 use Rattle.device.proofs.port.control_record.Tie as tie

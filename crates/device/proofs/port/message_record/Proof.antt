@@ -5,7 +5,7 @@ use mathlib.Core.Path.{ap, sym, _∙_}
 use Rattle.records.specs.declared.PortDone.{PortDone}
 use Rattle.records.specs.PortRecords.{front, messageEffect}
 use Rattle.records.specs.Parts.{portAnswered, portRan}
-use Rattle.device.proofs.Choices.{when-true, when-false}
+use Rattle.bits.proofs.Choices.{when-true, when-false}
 use Rattle.device.proofs.port.message_record.Statement.{statement}
 use Rattle.device.proofs.port.message_record.Tie as tie
 

@@ -6,7 +6,7 @@ use Rattle.frs_queue.specs.Queue.{Ring, arriveAll}
 use Rattle.readiness.specs.Root.{withRing, frsArrive}
 use Rattle.records.specs.PortRecords.{front, frontRoot, received, messageDone, messageEffect}
 use Rattle.records.specs.Parts.{portRun, portEffect, portAnswered}
-use Rattle.device.proofs.Choices.{when-true}
+use Rattle.bits.proofs.Choices.{when-true}
 use Rattle.device.proofs.port.receive_frs.Statement.{statement}
 use Rattle.device.proofs.port.receive_frs.Tie as tie
 

@@ -8,7 +8,7 @@ use Rattle.readiness.specs.declared.Dev.{Dev}
 use Rattle.records.specs.declared.PortDone.{PortDone}
 use Rattle.records.specs.declared.Completion.the-variants as completion
 use Rattle.records.specs.Answer.{reply}
-use Rattle.records.specs.PortRecords.{withQueue}
+use Rattle.readiness.specs.Fields.{withQueue}
 use Rattle.records.specs.Parts.{portRun, portEffect, portAnswered, portRan}
 use Rattle.device.proofs.port.run_port.Statement.{statement}
 use Rattle.device.proofs.port.run_port.Tie as tie

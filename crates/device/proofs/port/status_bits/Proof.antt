@@ -11,23 +11,23 @@ one-requires c κs = search needs
 one-requires-2 : tie.Need-one-requires-2
 one-requires-2 c κs = search needs
 
-mul-wide : tie.Need-mul-wide
-mul-wide c = search needs
+mul-u32-of-u8 : tie.Need-mul-u32-of-u8
+mul-u32-of-u8 c = search needs
 
-add-wide : tie.Need-add-wide
-add-wide c = search needs
+add-u32-of-u8 : tie.Need-add-u32-of-u8
+add-u32-of-u8 c = search needs
 
 one-requires-3 : tie.Need-one-requires-3
 one-requires-3 c κs = search needs
 
-mul-wide-2 : tie.Need-mul-wide-2
-mul-wide-2 c = search needs
+mul-u32-of-u8-2 : tie.Need-mul-u32-of-u8-2
+mul-u32-of-u8-2 c = search needs
 
-add-wide-2 : tie.Need-add-wide-2
-add-wide-2 c = search needs
+add-u32-of-u8-2 : tie.Need-add-u32-of-u8-2
+add-u32-of-u8-2 c = search needs
 
-wide-requires : tie.Need-wide-requires
-wide-requires c κs = search needs
+u32-of-u8-requires : tie.Need-u32-of-u8-requires
+u32-of-u8-requires c κs = search needs
 
 returns : tie.Need-returns
 unfolding statusBits
@@ -39,10 +39,10 @@ status-bits-spec =
     (tie.spec
     one-requires
     one-requires-2
-    mul-wide
-    add-wide
+    mul-u32-of-u8
+    add-u32-of-u8
     one-requires-3
-    mul-wide-2
-    add-wide-2
-    wide-requires
+    mul-u32-of-u8-2
+    add-u32-of-u8-2
+    u32-of-u8-requires
     returns)

@@ -3,7 +3,7 @@
 use borrow.Author.Needs.{needs}
 use mathlib.Core.Path.{sym, _∙_}
 use Rattle.bits.proofs.Bits.{bit-set, bit-clear}
-use Rattle.device.proofs.Choices.{when-true, when-false}
+use Rattle.bits.proofs.Choices.{when-true, when-false}
 use Rattle.device.proofs.requests.d3hot_reset.Statement.{statement}
 use Rattle.device.proofs.requests.d3hot_reset.Tie as tie
 

@@ -13,7 +13,7 @@ use Rattle.records.specs.State.{Seat, seat, wordPlace}
 use Rattle.records.specs.Answer.{Ran}
 use Rattle.records.specs.Requests.{hardwareEffect}
 use Rattle.records.specs.Parts.{slotEffect, slotAnswered, slotRun}
-use Rattle.device.proofs.Choices.{unless-true, unless-false, when-true, when-false}
+use Rattle.bits.proofs.Choices.{unless-true, unless-false, when-true, when-false}
 use Rattle.device.proofs.Resting.{told, ready-answered}
 use Rattle.device.proofs.requests.run_hardware.Statement.{statement}
 use Rattle.device.proofs.requests.run_hardware.Tie as tie

@@ -17,7 +17,7 @@ use Rattle.records.specs.Route.{routeCompletion, refusedData, isAccess}
 use Rattle.records.specs.Requests.{readEffect}
 use Rattle.records.specs.Parts.{slotEffect, slotAnswered, slotRun}
 use Rattle.records.proofs.Parted.{access-ready}
-use Rattle.device.proofs.Choices.{when-true, when-false}
+use Rattle.bits.proofs.Choices.{when-true, when-false}
 use Rattle.device.proofs.Resting.{told, ready-answered}
 use Rattle.device.proofs.requests.run_read.Statement.{statement}
 use Rattle.device.proofs.requests.run_read.Tie as tie
@@ -58,7 +58,7 @@ returns c =
     let z = seat (a .dev) (a .status) (a .live .now) cells in
     let e = c .before .before .before .before .before .route-of .ensures .0 in
     let t = ap isAccess (sym e) ∙ sym (c .before .before .before .before .is-access .ensures) ∙ c .before .before .before .if1 .taken in
-    let ready = ap isReady (access-ready (a .slots) (a .dev) (a .status) true (a .q) t) in
+    let ready = ap isReady (access-ready (a .slots) (a .kind) (a .dev) (a .status) true (a .q) t) in
     ap (slotAnswered bus entry slot z) (when-true _ _ _ t) ∙ ready-answered bus entry slot z z _ ready ∙ ap (λ (n : ℕ). told z (reply completion.Done noTally n)) (sym (c .before .read-word .ensures)) ∙ ap (told z) (sym (c .plain-reply .ensures))
 
 route-completion-requires : tie.Need-route-completion-requires

@@ -12,7 +12,7 @@ use Rattle.records.specs.Answer.{Ran, does, reply}
 use Rattle.records.specs.Route.{routeCompletion, isAccess}
 use Rattle.records.specs.Requests.{writeEffect}
 use Rattle.records.specs.Parts.{slotEffect, slotAnswered, slotRun}
-use Rattle.device.proofs.Choices.{when-true, when-false}
+use Rattle.bits.proofs.Choices.{when-true, when-false}
 use Rattle.device.proofs.Resting.{told}
 use Rattle.device.proofs.requests.run_write.Statement.{statement}
 use Rattle.device.proofs.requests.run_write.Tie as tie

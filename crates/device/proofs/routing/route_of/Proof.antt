@@ -6,7 +6,7 @@ use mathlib.Core.Path.{sym, _∙_}
 use mathlib.Core.Bool.{false≢true}
 use borrow.Author.Tests.{lt-ltb, le-ltb}
 use Rattle.records.specs.Route.{routeOf}
-use Rattle.device.proofs.Choices.{unless-true, unless-false}
+use Rattle.bits.proofs.Choices.{unless-true, unless-false}
 use Rattle.device.proofs.routing.route_of.Statement.{statement}
 use Rattle.device.proofs.routing.route_of.Tie as tie
 

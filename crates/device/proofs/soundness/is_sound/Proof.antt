@@ -7,7 +7,7 @@ use mathlib.Core.Bool.{true}
 use Prim.Native.Nat.{_≤_, _<_}
 use lib.Dec.{leb}
 use borrow.Author.Tests.{lt-ltb, le-ltb, le-leb, lt-leb}
-use Rattle.records.specs.CardRecords.{clockEnd}
+use Rattle.times.specs.Moments.{clockEnd}
 use Rattle.records.specs.Sound.{sound}
 use Rattle.device.proofs.soundness.is_sound.Statement.{statement}
 use Rattle.device.proofs.soundness.is_sound.Tie as tie
@@ -47,7 +47,7 @@ sound-owed-requires c κs = search needs
 
 returns-4 : tie.Need-returns-4
 unfolding sound
-returns-4 c = λ setup live e. simp (early (c .before .before .before .before .before .before), lt-ltb _ _ (c .before .before .before .before .before .if2 .left), le-leb _ _ (c .before .before .before .before .if3 .left), c .before .before .before .sound-cells .ensures, c .before .sound-statuses .ensures, c .sound-owed .ensures, e)
+returns-4 c = λ setup live e. simp (early (c .before .before .before .before .before .before), lt-ltb _ _ (c .before .before .before .before .before .if2 .left), le-leb _ _ (c .before .before .before .before .if3 .left), c .before .before .before .sound-cells .ensures, c .before .sound-statuses .ensures, c .sound-owed .ensures setup e, e)
 
 pub is-sound-spec : {M : Type 1} → statement M
 is-sound-spec =

@@ -14,10 +14,13 @@ all-ready-requires : tie.Need-all-ready-requires
 all-ready-requires c κs = search needs
 
 returns : tie.Need-returns
-returns c = let d = c .before .before .before .before .args .dev in ap (λ (b : Bool). d .link && not b) (c .before .all-ready .ensures) ∙ held (d .owed) _ (c .before .before .if1 .taken)
+returns c =
+    λ setup e.
+    let d = c .before .before .before .before .args .dev in
+    ap (λ (b : Bool). d .link && not b) (c .before .all-ready .ensures setup e) ∙ held (d .owed) _ (c .before .before .if1 .taken)
 
 returns-2 : tie.Need-returns-2
-returns-2 c = search needs
+returns-2 c = λ setup e. search needs
 
 pub sound-owed-spec : {M : Type 1} → statement M
 sound-owed-spec = tie.close (tie.spec all-ready-requires returns returns-2)

@@ -5,10 +5,11 @@ use borrow.Author.Needs.{needs}
 use mathlib.Core.Path.{_≡_, sym, ap, _∙_}
 use mathlib.Core.Bool.{Bool, true}
 use Prim.Native.Nat.{ℕ, _≤_, _-_}
+use Rattle.bits.specs.Every.{every}
+use Rattle.bits.proofs.Every.{every-none, every-more, every-not}
 use Rattle.readiness.specs.Phases.{statusesIn}
 use Rattle.records.specs.State.{statusAt}
 use Rattle.records.specs.Sound.{soundStatus}
-use Rattle.device.proofs.Every.{every, every-none, every-more, every-not, statuses-every}
 use Rattle.device.proofs.soundness.sound_statuses.Statement.{statement}
 use Rattle.device.proofs.soundness.sound_statuses.Tie as tie
 
@@ -46,7 +47,7 @@ returns c =
     let a = l .before .before .args in
     let s = statusesIn (a .phases .now) in
     let p : ℕ → Bool = λ j. soundStatus (a .dev) (statusAt s j) in
-    sym (statuses-every (a .slots) (a .dev) s ∙ every-not (a .slots) p (l .loop .i) (omega arith) (tested (c .before) ∙ c .if1 .left))
+    sym (every-not (a .slots) p (l .loop .i) (omega arith) (tested (c .before) ∙ c .if1 .left))
 
 returns-2 : tie.Need-returns-2 Inv-loop μ-loop
 returns-2 c =
@@ -54,7 +55,7 @@ returns-2 c =
     let s = statusesIn (a .phases .now) in
     let p : ℕ → Bool = λ j. soundStatus (a .dev) (statusAt s j) in
     let e : a .slots ≡ c .before .loop .i = omega arith in
-    sym (statuses-every (a .slots) (a .dev) s ∙ ap (λ (n : ℕ). every n p) e ∙ c .before .loop .inv .1)
+    sym (ap (λ (n : ℕ). every n p) e ∙ c .before .loop .inv .1)
 
 pub sound-statuses-spec : {M : Type 1} → statement M
 sound-statuses-spec =

@@ -1,6 +1,5 @@
 -- `feed::choosing::of_advance` meets its contract.
 -- Assumes nothing.
-use native.Mathlib.Omega.{arith}
 use borrow.Author.Needs.{needs}
 use mathlib.Core.Path.{refl, sym, ap, _∙_}
 use lib.Dec.{ltb}
@@ -23,7 +22,7 @@ returns c =
     λ slots link. (refl, ltb-true (sumOf (a .clock) (a .by) .0) (a .earliest .0) e)
 
 returns-2 : tie.Need-returns-2
-returns-2 c = λ slots link. (refl, omega arith)
+returns-2 c = λ slots link setup e. refl
 
 pub of-advance-spec : {M : Type 1} → statement M
 of-advance-spec =

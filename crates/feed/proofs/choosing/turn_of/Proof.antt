@@ -1,19 +1,12 @@
 -- `feed::choosing::turn_of` meets its contract.
 -- Assumes nothing.
-use Prim.Native.Nat.{_<_}
-use native.Mathlib.Omega.{arith}
 use borrow.Author.Needs.{needs}
-use mathlib.Core.Path.{_≡_, ap, sym, subst}
+use mathlib.Core.Path.{ap, sym, subst}
 use Rattle.records.specs.declared.Record.{Record}
 use Rattle.records.specs.Parts.{partOf}
-use Rattle.gather.specs.Gathering.{recordSize}
 use Rattle.feed.specs.Turns.{Takes}
 use Rattle.feed.proofs.choosing.turn_of.Statement.{statement}
 use Rattle.feed.proofs.choosing.turn_of.Tie as tie
-
--- a record that has a byte
-some : {r z : Record} → r ≡ z → 0 < recordSize z → 0 < recordSize r
-some e h = subst (λ (x : Record). 0 < recordSize x) (sym e) h
 
 enum-known-record : tie.Need-enum-known-record
 enum-known-record c = search needs
@@ -85,34 +78,34 @@ returns-4 : tie.Need-returns-4
 returns-4 c = let a = c .before .before .before .before .args in subst (λ (x : Record). Takes (a .slots) (a .earliest) (a .clock) (a .link) x (c .of-message .result)) (sym (c .before .before .record4 .given .1)) (c .of-message .ensures (a .slots) (a .earliest) (a .clock))
 
 returns-5 : tie.Need-returns-5
-returns-5 c = (ap (partOf (c .before .before .args .slots)) (c .enum-told .given .1), some (c .enum-told .given .1) (omega arith))
+returns-5 c = λ setup e. ap (partOf setup) (c .enum-told .given .1)
 
 returns-6 : tie.Need-returns-6
-returns-6 c = (ap (partOf (c .before .before .args .slots)) (c .enum-told2 .given .1), some (c .enum-told2 .given .1) (omega arith))
+returns-6 c = λ setup e. ap (partOf setup) (c .enum-told2 .given .1)
 
 returns-7 : tie.Need-returns-7
-returns-7 c = (ap (partOf (c .before .before .args .slots)) (c .enum-told3 .given .1), some (c .enum-told3 .given .1) (omega arith))
+returns-7 c = λ setup e. ap (partOf setup) (c .enum-told3 .given .1)
 
 returns-8 : tie.Need-returns-8
-returns-8 c = (ap (partOf (c .before .before .args .slots)) (c .enum-told4 .given .1), some (c .enum-told4 .given .1) (omega arith))
+returns-8 c = λ setup e. ap (partOf setup) (c .enum-told4 .given .1)
 
 returns-9 : tie.Need-returns-9
-returns-9 c = (ap (partOf (c .before .before .args .slots)) (c .enum-told5 .given .1), some (c .enum-told5 .given .1) (omega arith))
+returns-9 c = λ setup e. ap (partOf setup) (c .enum-told5 .given .1)
 
 returns-10 : tie.Need-returns-10
-returns-10 c = (ap (partOf (c .before .before .args .slots)) (c .enum-told6 .given .1), some (c .enum-told6 .given .1) (omega arith))
+returns-10 c = λ setup e. ap (partOf setup) (c .enum-told6 .given .1)
 
 returns-11 : tie.Need-returns-11
-returns-11 c = (ap (partOf (c .before .before .args .slots)) (c .enum-told7 .given .1), some (c .enum-told7 .given .1) (omega arith))
+returns-11 c = λ setup e. ap (partOf setup) (c .enum-told7 .given .1)
 
 returns-12 : tie.Need-returns-12
 returns-12 c = let a = c .before .before .before .before .args in subst (λ (x : Record). Takes (a .slots) (a .earliest) (a .clock) (a .link) x (c .of-hardware .result)) (sym (c .before .before .record5 .given .1)) (c .of-hardware .ensures (a .earliest) (a .clock) (a .link))
 
 returns-13 : tie.Need-returns-13
-returns-13 c = (ap (partOf (c .before .before .args .slots)) (c .enum-told8 .given .1), some (c .enum-told8 .given .1) (omega arith))
+returns-13 c = λ setup e. ap (partOf setup) (c .enum-told8 .given .1)
 
 returns-14 : tie.Need-returns-14
-returns-14 c = search needs
+returns-14 c = λ setup e. ap (partOf setup) (c .enum-told9 .given .1)
 
 pub turn-of-spec : {M : Type 1} → statement M
 turn-of-spec =

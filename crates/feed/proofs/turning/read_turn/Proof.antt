@@ -1,19 +1,19 @@
 -- `feed::turning::read_turn` meets its contract.
 -- Assumes nothing.
-use Prim.Native.Nat.{ℕ}
-use mathlib.Core.Path.{refl, sym, ap, _∙_}
+use mathlib.Core.Path.{refl, sym, _∙_}
 use borrow.Author.Needs.{needs}
 use denote.Ref.{now}
 use Rattle.readiness.specs.Phases.{statusesIn}
-use Rattle.readiness.specs.Status.{entryOf}
 use Rattle.records.specs.declared.Record.the-variants as variants
-use Rattle.records.specs.Parts.{partAt}
 use Rattle.feed.proofs.Direct.{turned-of, at-slot, as-told, still-runs}
 use Rattle.feed.proofs.turning.read_turn.Statement.{statement}
 use Rattle.feed.proofs.turning.read_turn.Tie as tie
 
 status-at-requires : tie.Need-status-at-requires
 status-at-requires c κs = search needs
+
+kind-of-entry-requires : tie.Need-kind-of-entry-requires
+kind-of-entry-requires c κs = search needs
 
 run-read-requires : tie.Need-run-read-requires
 run-read-requires c κs = search needs
@@ -26,16 +26,16 @@ same-length c = search needs
 
 returns : tie.Need-returns
 returns c =
-    λ setup defaults cells e h sound fits.
-    let a = c .before .before .before .before .before .before .before .before .before .args in
+    λ setup defaults cells e n h sound fits.
+    let a = c .before .before .before .before .before .before .before .before .before .before .args in
     let s = statusesIn (now (a .phases)) in
     let i = a .q .slot in
     let r = variants.Read (a .q) in
     let x = c .before .before .before .run-read in
     turned-of setup defaults (a .dev) s (now (a .live)) cells r _ (x .result)
-    (still-runs setup defaults (a .dev) s (now (a .live)) cells r sound fits i (ap (λ (n : ℕ). partAt n i) e ∙ at-slot (a .slots) i h) (x .result) (now (a .live))
-    (rw (sym (c .before .before .before .before .before .status-at .ensures))
-    (as-told setup defaults (a .dev) s (now (a .live)) cells r (a .slots) (setup .bus) (entryOf setup i) e refl i refl _ ∙ x .ensures (setup .bus) (entryOf setup i) defaults i cells)))
+    (still-runs setup defaults (a .dev) s (now (a .live)) cells r sound fits i (at-slot setup (a .slots) i e h) (x .result) (now (a .live))
+    (rw (sym (c .before .before .before .before .before .before .status-at .ensures))
+    (as-told setup defaults (a .dev) s (now (a .live)) cells r (a .slots) (setup .bus) (a .entry) _ e refl i n (c .before .before .before .before .before .kind-of-entry .ensures) _ ∙ x .ensures (setup .bus) (a .entry) defaults i cells)))
     _ _ _ (c .before .before .answer .ensures)
 
 pub read-turn-spec : {M : Type 1} → statement M
@@ -43,6 +43,7 @@ read-turn-spec =
     tie.close
     (tie.spec
     status-at-requires
+    kind-of-entry-requires
     run-read-requires
     answer-requires
     same-length

@@ -1,12 +1,10 @@
 -- `feed::turning::write_turn` meets its contract.
 -- Assumes nothing.
-use Prim.Native.Nat.{ℕ}
-use mathlib.Core.Path.{sym, ap, _∙_}
+use mathlib.Core.Path.{sym, _∙_}
 use borrow.Author.Needs.{needs}
 use denote.Ref.{now}
 use Rattle.readiness.specs.Phases.{statusesIn}
 use Rattle.records.specs.declared.Record.the-variants as variants
-use Rattle.records.specs.Parts.{partAt}
 use Rattle.feed.proofs.Running.{slot-runs}
 use Rattle.feed.proofs.Direct.{turned-of, at-slot, as-told}
 use Rattle.feed.proofs.turning.write_turn.Statement.{statement}
@@ -15,14 +13,17 @@ use Rattle.feed.proofs.turning.write_turn.Tie as tie
 status-at-requires : tie.Need-status-at-requires
 status-at-requires c κs = search needs
 
+kind-of-entry-requires : tie.Need-kind-of-entry-requires
+kind-of-entry-requires c κs = search needs
+
 run-write-requires : tie.Need-run-write-requires
 run-write-requires c κs = search needs
 
 answer-requires : tie.Need-answer-requires
-answer-requires c κs = c .before .before .before .before .before .before .before .before .before .before .before .before .before .before .before .pre .1 .4
+answer-requires c κs = c .before .before .before .before .before .before .before .before .before .before .before .before .before .before .before .before .pre .1 .4
 
 put-status-requires : tie.Need-put-status-requires
-put-status-requires c κs = c .before .before .before .before .before .before .before .before .before .before .before .before .before .before .before .before .before .before .before .before .pre .1 .1
+put-status-requires c κs = c .before .before .before .before .before .before .before .before .before .before .before .before .before .before .before .before .before .before .before .before .before .pre .1 .1
 
 lowered-requires : tie.Need-lowered-requires
 lowered-requires c κs = search needs
@@ -41,7 +42,7 @@ same-length-4 c = search needs
 
 returns : tie.Need-returns
 returns c =
-    let a = c .before .before .before .before .before .before .before .before .before .before .before .before .before .before .before .before .before .before .before .before .before .before .before .before .before .args in
+    let a = c .before .before .before .before .before .before .before .before .before .before .before .before .before .before .before .before .before .before .before .before .before .before .before .before .before .before .args in
     let d = now (a .defaults) in
     let s = statusesIn (now (a .phases)) in
     let i = a .q .slot in
@@ -51,9 +52,9 @@ returns c =
       λ setup e b n h sound fits.
           rw put
           (turned-of setup d (a .dev) s (now (a .live)) (now (a .cells)) r _ (x .result .reply)
-          (slot-runs setup d (a .dev) s (now (a .live)) (now (a .cells)) r sound fits i (ap (λ (n : ℕ). partAt n i) e ∙ at-slot (a .slots) i h) (x .result) _ _
-          (rw (sym (c .before .before .before .before .before .before .before .before .before .before .before .before .before .before .before .before .before .before .status-at .ensures))
-          (x .ensures ∙ sym (as-told setup d (a .dev) s (now (a .live)) (now (a .cells)) r (a .slots) (a .bus) (a .entry) e b i n _))))
+          (slot-runs setup d (a .dev) s (now (a .live)) (now (a .cells)) r sound fits i (at-slot setup (a .slots) i e h) (x .result) _ _
+          (rw (sym (c .before .before .before .before .before .before .before .before .before .before .before .before .before .before .before .before .before .before .before .status-at .ensures))
+          (x .ensures ∙ sym (as-told setup d (a .dev) s (now (a .live)) (now (a .cells)) r (a .slots) (a .bus) (a .entry) _ e b i n (c .before .before .before .before .before .before .before .before .before .before .before .before .before .before .before .before .before .before .kind-of-entry .ensures) _))))
           _ _ _ (c .before .before .before .before .before .before .before .before .before .answer .ensures)),
       λ h. rw put (c .lowered .ensures s i h),
     )
@@ -63,6 +64,7 @@ write-turn-spec =
     tie.close
     (tie.spec
     status-at-requires
+    kind-of-entry-requires
     run-write-requires
     answer-requires
     put-status-requires

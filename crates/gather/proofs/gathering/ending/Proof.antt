@@ -9,8 +9,8 @@ use lib.ListN.{length, getD, take}
 use denote.Ref.{now}
 use Rattle.trace.specs.Format.{sizeOf}
 use Rattle.trace.proofs.Lists.{length-joined}
-use Rattle.trace.proofs.Gathering.{size-within}
-use Rattle.gather.proofs.Ends.{ends-none, ends-unknown, ends-part, ends-full}
+use Rattle.trace.proofs.Gathering.{EndsSo, ends-none, ends-unknown, ends-part, ends-full}
+use Rattle.gather.specs.Gathering.{endingOf}
 use Rattle.gather.proofs.gathering.ending.Statement.{statement}
 use Rattle.gather.proofs.gathering.ending.Tie as tie
 
@@ -29,10 +29,12 @@ size-is c = sym (c .size-of .ensures ∙ ap sizeOf (c .before .byte-at .ensures)
 add-there : tie.Need-add-there
 add-there c = search needs
 
+-- the end, field by field
+so : (bs : List ℕ) (n m : ℕ) → EndsSo bs n m → record { number = n; count = m } ≡ endingOf bs
+so bs n m e = λ i. record { number = e .number i; count = e .count i }
+
 returns : tie.Need-returns
-returns c =
-    let s = c .before .before .before in
-    (λ room f. ends-none (trace s) room (there s ∙ c .if1 .taken), (omega arith, omega arith))
+returns c = let s = c .before .before .before in so (trace s) 0 0 (ends-none (trace s) (there s ∙ c .if1 .taken))
 
 byte-at-requires : tie.Need-byte-at-requires
 byte-at-requires c κs = search needs
@@ -43,13 +45,12 @@ size-of-requires c κs = search needs
 returns-2 : tie.Need-returns-2
 returns-2 c =
     let s = c .before .before .before .before .before .before in
-    (λ room f. ends-unknown (trace s) room (omega (arith, there s)) (size-is (c .before) ∙ c .if2 .taken), (omega arith, omega arith))
+    so (trace s) 31 0 (ends-unknown (trace s) (omega (arith, there s)) (size-is (c .before) ∙ c .if2 .taken))
 
 returns-3 : tie.Need-returns-3
 returns-3 c =
     let s = c .before .before .before .before .before .before .before in
-    let z = size-is (c .before .before) in
-    (λ room f. ends-part (trace s) room _ (there s) (omega arith) (omega (arith, z, c .if3)), (omega (arith, z, size-within (getD (trace s) 0 0), c .if3), omega arith))
+    so (trace s) 0 _ (ends-part (trace s) _ (there s) (omega (arith, size-is (c .before .before), c .if3)))
 
 sub-t6 : tie.Need-sub-t6
 sub-t6 c = search needs
@@ -57,10 +58,7 @@ sub-t6 c = search needs
 returns-4 : tie.Need-returns-4
 returns-4 c =
     let s = c .before .before .before .before .before .before .before in
-    let z = size-is (c .before .before) in (
-      λ room f. ends-full (trace s) room _ z (omega (arith, c .before .if2)) (omega (arith, there s, c .if3)) f,
-      (omega (arith, z, size-within (getD (trace s) 0 0)), omega (arith, c .if3)),
-    )
+    so (trace s) 30 _ (ends-full (trace s) _ (size-is (c .before .before)) (omega (arith, c .before .if2)) (omega (arith, there s, c .if3)))
 
 pub ending-spec : {M : Type 1} → statement M
 ending-spec =

@@ -1,33 +1,30 @@
--- `image::state::are_good_statuses` is safe and ends: it counts to 32.
+-- `image::state::are_good_statuses` meets its contract.
 -- Assumes nothing.
+use Prim.Native.Nat.{_+_, _*_, _-_, _≤_}
+use mathlib.Core.Bool.{Bool, _&&_, and-assoc, and-true}
+use mathlib.Core.Path.{_≡_, refl, ap, sym, _∙_}
+use native.Mathlib.Omega.{arith}
+use lib.ListN.{drop}
 use borrow.Author.Needs.{needs}
-use Prim.Native.Nat.{_≤_, _-_}
+use Rattle.image_layout.proofs.Steps.{good-more, good-none}
+use Rattle.image_layout.specs.Reading.{goodStatus, goodStatuses}
 use Rattle.image.proofs.state.are_good_statuses.Statement.{statement}
 use Rattle.image.proofs.state.are_good_statuses.Tie as tie
 
 abbrev Inv-loop : tie.InvT-loop
-Inv-loop bytes i₀ good₀ i good = i ≤ 32
+Inv-loop bytes i₀ good₀ i good = (i ≤ 32) × ((good && goodStatuses (32 - i) (drop (46 + 27 * i) bytes)) ≡ goodStatuses 32 (drop 46 bytes))
 
 abbrev μ-loop : tie.MeasureT-loop
 μ-loop bytes i₀ good₀ i good = 32 - i
 
 loop-holds : tie.Need-loop-holds Inv-loop μ-loop
-loop-holds c = search needs
+loop-holds c = (omega arith, refl)
 
-mul-at : tie.Need-mul-at Inv-loop μ-loop
-mul-at c = search needs
+mul-is-good-status : tie.Need-mul-is-good-status Inv-loop μ-loop
+mul-is-good-status c = search needs
 
-add-at : tie.Need-add-at Inv-loop μ-loop
-add-at c = search needs
-
-byte-at-requires : tie.Need-byte-at-requires Inv-loop μ-loop
-byte-at-requires c κs = search needs
-
-add-byte-at : tie.Need-add-byte-at Inv-loop μ-loop
-add-byte-at c = search needs
-
-byte-at-requires-2 : tie.Need-byte-at-requires-2 Inv-loop μ-loop
-byte-at-requires-2 c κs = search needs
+add-is-good-status : tie.Need-add-is-good-status Inv-loop μ-loop
+add-is-good-status c = search needs
 
 is-good-status-requires : tie.Need-is-good-status-requires Inv-loop μ-loop
 is-good-status-requires c κs = search needs
@@ -39,10 +36,23 @@ loop-less : tie.Need-loop-less Inv-loop μ-loop
 loop-less c = search needs
 
 loop-again : tie.Need-loop-again Inv-loop μ-loop
-loop-again c = search needs
+loop-again c = let l = c .before .before in
+    let b = l .before .before .args .bytes .now in
+    let i = l .loop .i in
+    let good = l .loop .good in
+    let rest = goodStatuses (32 - (i + 1)) (drop (46 + 27 * (i + 1)) b) in (
+      omega arith,
+      ap (λ (r : Bool). (good && r) && rest) (c .is-good-status .ensures)
+          ∙ and-assoc good (goodStatus (drop (46 + 27 * i) b)) rest
+          ∙ ap (λ (r : Bool). good && r) (sym (good-more 32 i b (c .before .loop-test .taken)))
+          ∙ l .loop .inv .1,
+    )
 
 returns : tie.Need-returns Inv-loop μ-loop
-returns c = search needs
+returns c = let l = c .before in
+    let b = l .before .before .args .bytes .now in
+    let i = l .loop .i in
+    sym (and-true (l .loop .good)) ∙ ap (λ (r : Bool). l .loop .good && r) (sym (good-none 32 i (drop (46 + 27 * i) b) (c .loop-test .left))) ∙ l .loop .inv .1
 
 pub are-good-statuses-spec : {M : Type 1} → statement M
 are-good-statuses-spec =
@@ -51,11 +61,8 @@ are-good-statuses-spec =
     Inv-loop
     μ-loop
     loop-holds
-    mul-at
-    add-at
-    byte-at-requires
-    add-byte-at
-    byte-at-requires-2
+    mul-is-good-status
+    add-is-good-status
     is-good-status-requires
     add-i
     loop-less

@@ -1,14 +1,22 @@
--- `image::state::statuses_in` is safe and ends: it counts to 32.
+-- `image::state::statuses_in` meets its contract.
 -- Assumes nothing.
+use Prim.Native.Nat.{_+_, _*_, _-_, _≤_}
+use mathlib.Core.List.{List}
+use mathlib.Core.Path.{_≡_, ap, sym, _∙_}
+use native.Mathlib.Numerals.{add-one}
+use native.Mathlib.Omega.{arith}
+use lib.Seq.{sets}
+use lib.ListN.{length, drop, set, length-set}
 use borrow.Author.Needs.{needs}
-use Prim.Native.Nat.{_≤_, _-_}
-use mathlib.Core.Path.{_≡_}
-use lib.ListN.{length}
+use Rattle.image_layout.proofs.Steps.{statuses-in-more, statuses-in-none, length-statuses-in}
+use Rattle.image_layout.proofs.Stores.{store-one, store-none, sets-whole}
+use Rattle.image_layout.specs.Reading.{statusIn, statusesInBytes}
+use Rattle.readiness.specs.declared.Status.{Status}
 use Rattle.image.proofs.state.statuses_in.Statement.{statement}
 use Rattle.image.proofs.state.statuses_in.Tie as tie
 
 abbrev Inv-loop : tie.InvT-loop
-Inv-loop bytes statuses₀ i₀ statuses i = (i ≤ 32) × (length statuses ≡ 32)
+Inv-loop bytes statuses₀ i₀ statuses i = (i ≤ 32) × (length statuses ≡ 32) × (sets statuses i (statusesInBytes (32 - i) (drop (46 + 27 * i) bytes)) ≡ statusesInBytes 32 (drop 46 bytes))
 
 abbrev μ-loop : tie.MeasureT-loop
 μ-loop bytes statuses₀ i₀ statuses i = 32 - i
@@ -17,7 +25,9 @@ all-down-requires : tie.Need-all-down-requires Inv-loop μ-loop
 all-down-requires c κs = search needs
 
 loop-holds : tie.Need-loop-holds Inv-loop μ-loop
-loop-holds c = search needs
+loop-holds c = let e : length (c .all-down .result) ≡ 32 = ap (λ (s : List Status). length s) (c .all-down .ensures) in
+    let b = c .before .before .args .bytes .now in
+    (omega arith, e, sets-whole (statusesInBytes 32 (drop 46 b)) (c .all-down .result) (length-statuses-in 32 (drop 46 b) ∙ sym e))
 
 mul-status-in : tie.Need-mul-status-in Inv-loop μ-loop
 mul-status-in c = search needs
@@ -41,10 +51,23 @@ loop-less : tie.Need-loop-less Inv-loop μ-loop
 loop-less c = search needs
 
 loop-again : tie.Need-loop-again Inv-loop μ-loop
-loop-again c = search needs
+loop-again c = let l = c .before .before in
+    let b = l .before .before .before .args .bytes .now in
+    let i = l .loop .i in
+    let s = l .loop .statuses in
+    let rest = statusesInBytes (32 - (i + 1)) (drop (46 + 27 * (i + 1)) b) in (
+      omega arith,
+      length-set s i (c .status-in .result) ∙ l .loop .inv .1,
+      ap (λ (v : Status). sets (set s i v) (i + 1) rest) (c .status-in .ensures)
+          ∙ store-one s (statusesInBytes (32 - i) (drop (46 + 27 * i) b)) rest i (i + 1) (statusIn (drop (46 + 27 * i) b)) (statuses-in-more 32 i b (c .before .loop-test .taken)) (add-one i)
+          ∙ l .loop .inv .2,
+    )
 
 returns : tie.Need-returns Inv-loop μ-loop
-returns c = search needs
+returns c = let l = c .before in
+    let b = l .before .before .before .args .bytes .now in
+    let i = l .loop .i in
+    store-none (l .loop .statuses) (statusesInBytes (32 - i) (drop (46 + 27 * i) b)) i (statuses-in-none 32 i (drop (46 + 27 * i) b) (c .loop-test .left)) ∙ l .loop .inv .2
 
 pub statuses-in-spec : {M : Type 1} → statement M
 statuses-in-spec =

@@ -7,8 +7,9 @@ use mathlib.Core.Bool.{true}
 use borrow.Author.Tests.{not-true, not-false}
 use borrow.Author.Needs.{needs}
 use Rattle.readiness.specs.Status.{entryOf}
-use Rattle.demand3.specs.Refusals.{every, codesAllowed, allCodesAllowed}
-use Rattle.demand3.proofs.Refusals.{every-none, every-more, every-not}
+use Rattle.bits.specs.Every.{every}
+use Rattle.bits.proofs.Every.{every-none, every-more, every-not}
+use Rattle.demand3.specs.Refusals.{codesAllowed, allCodesAllowed}
 use Rattle.set_up.proofs.refusing.all_codes_allowed.Statement.{statement}
 use Rattle.set_up.proofs.refusing.all_codes_allowed.Tie as tie
 

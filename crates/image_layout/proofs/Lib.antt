@@ -1,0 +1,5 @@
+pub mod Stores
+pub mod Numbers
+pub mod ReadBack
+pub mod Steps
+pub mod Examples

@@ -1,0 +1,141 @@
+//! Writing cases and state images.
+
+use super::noise::Noise;
+use super::{Case, Operation};
+use crate::landed::NO_PARENT;
+use crate::setup::{Setup, SlotEntry};
+use crate::state::{Cause, Port, State, Status, MOST_CARRIED};
+
+fn put_words(words: &[u32], out: &mut Vec<u8>) {
+    out.reserve(words.len() * 4);
+    for word in words {
+        out.extend_from_slice(&word.to_le_bytes());
+    }
+}
+
+fn put_entry(entry: &SlotEntry, out: &mut Vec<u8>) {
+    for code in entry.codes() {
+        out.extend(code.0.to_le_bytes());
+    }
+    out.push(u8::from(entry.sends_frs));
+    out.push(entry.edition);
+    out.extend(entry.v.0.to_le_bytes());
+    out.push(entry.parent.unwrap_or(NO_PARENT));
+}
+
+/// Writes the front of a case, up to its operations.
+fn put_setup(setup: &Setup, out: &mut Vec<u8>) {
+    out.push(setup.slots);
+    out.push(setup.statuses as u8);
+    for length in [setup.live_words, setup.defaults.len(), setup.cells] {
+        out.extend((length as u16).to_le_bytes());
+    }
+    out.push(setup.bus);
+    out.extend(setup.port_id.to_le_bytes());
+    out.push(u8::from(setup.conventional));
+    for entry in &setup.entries {
+        put_entry(entry, out);
+    }
+    put_words(&setup.defaults, out);
+}
+
+fn put_operation(operation: &Operation, out: &mut Vec<u8>) {
+    match operation {
+        Operation::SetUp => out.push(0x01),
+        Operation::Feed { room, input } => {
+            out.push(0x02);
+            out.extend(room.to_le_bytes());
+            out.extend((input.len() as u16).to_le_bytes());
+            out.extend(input);
+        }
+        Operation::Lend { state, noise } => {
+            out.push(0x03);
+            put_whole_image(state, &state.port.carried, &mut Noise::new(*noise), out);
+        }
+        Operation::WriteMessage { kind, id, reason, room } => {
+            out.extend([0x0D, *kind]);
+            out.extend(id.to_le_bytes());
+            out.extend([*reason, *room]);
+        }
+        Operation::ReadMessage(bytes) => {
+            out.extend([0x0E, bytes.len() as u8]);
+            out.extend(bytes);
+        }
+    }
+}
+
+/// Writes a whole case.
+pub fn put_case(case: &Case, out: &mut Vec<u8>) {
+    put_setup(&case.setup, out);
+    for operation in &case.operations {
+        put_operation(operation, out);
+    }
+    out.push(0);
+}
+
+/// Writes a state image, carried bytes past the count as 0.
+pub fn put_image(state: &State, out: &mut Vec<u8>) {
+    let mut carried = [0; MOST_CARRIED];
+    let count = usize::from(state.port.carried_count).min(MOST_CARRIED);
+    carried[..count].copy_from_slice(&state.port.carried[..count]);
+    put_image_with(state, &carried, out);
+}
+
+/// Writes a state image with these carried bytes.
+pub fn put_image_with(state: &State, carried: &[u8; MOST_CARRIED], out: &mut Vec<u8>) {
+    put_whole_image(state, carried, &mut Noise::new(0), out);
+}
+
+fn put_whole_image(
+    state: &State,
+    carried: &[u8; MOST_CARRIED],
+    noise: &mut Noise,
+    out: &mut Vec<u8>,
+) {
+    put_port(&state.port, carried, out);
+    for status in &state.statuses {
+        put_status(status, noise, out);
+    }
+    put_words(&state.live, out);
+    put_words(&state.cells, out);
+}
+
+fn put_port(port: &Port, carried: &[u8; MOST_CARRIED], out: &mut Vec<u8>) {
+    out.extend(port.clock.0.to_le_bytes());
+    out.extend(port.reset_at.0.to_le_bytes());
+    let bits = [
+        port.link,
+        port.owed,
+        port.received,
+        port.overflow,
+        port.drs_received,
+        port.visibility,
+        port.frs_interrupt,
+    ];
+    out.extend(bits.map(u8::from));
+    out.push(port.signalling);
+    out.extend(port.start.to_le_bytes());
+    out.extend(port.depth.to_le_bytes());
+    out.push(port.carried_count);
+    out.extend(carried);
+    out.push(u8::from(port.broken));
+}
+
+/// Phase, cause, ready time, FLR end; then the set, disabled with no change under way.
+fn put_status(status: &Status, noise: &mut Noise, out: &mut Vec<u8>) {
+    let (phase, cause, ready, end) = match status {
+        Status::Down => (0, noise.cause(), noise.time(), noise.time()),
+        Status::Ready => (2, noise.cause(), noise.time(), noise.time()),
+        Status::Pending { cause, ready } => match cause {
+            Cause::LinkUp => (1, 1, ready.0, noise.time()),
+            Cause::Flr { end } => (1, 2, ready.0, end.0),
+            Cause::D3hot => (1, 3, ready.0, noise.time()),
+        },
+    };
+    out.push(phase);
+    out.push(cause);
+    out.extend(u64::to_le_bytes(ready));
+    out.extend(u64::to_le_bytes(end));
+    out.push(0);
+    out.extend(noise.time().to_le_bytes());
+}

@@ -6,6 +6,7 @@ ghost use Rattle.registers.specs.Rows.{masks};
 ghost use Rattle.registers.specs.Words.{withDefaults};
 ghost use Rattle.config_space.specs.Functions.{resetWhere, inSlot, linkResetSlot, flrResetSlot, coldReset};
 ghost use Rattle.config_words.specs.Resetting.{between, maskIn, byMask, linkMasks, flrMasks, linkMasksOf, changingBetween};
+use bits::at_most;
 use registers::DEVICE_CONTROL;
 use registers::Kind;
 use registers::Masks;
@@ -105,17 +106,11 @@ fn mask_in(reset: ResetMasks, i: usize) -> u32
     }
 }
 
-fn least(a: usize, b: usize) -> usize
-    ensures { λ r. ⌜ r ≡ min a b ⌝ }
-{
-    if a < b { a } else { b }
-}
-
 // The reset of the lent words from `from` up to, and without, `to`, as far as both slices go.
 fn reset_words(reset: ResetMasks, from: usize, to: usize, live: &mut [u32], defaults: &[u32])
     ensures { λ _. ⌜ now (live .exit) ≡ resetWhere (between from to) (byMask reset) (now (live .entry)) (now (defaults .entry)) ⌝ }
 {
-    let end = least(to, least(live.len(), defaults.len()));
+    let end = at_most(to, at_most(live.len(), defaults.len()));
     let mut n = from;
     while n < end {
         let mask = mask_in(reset, n % 64);
@@ -185,7 +180,7 @@ fn word_index(slot: usize, i: usize, words: usize) -> usize
 fn whole_slots(live: usize, defaults: usize) -> usize
     ensures { λ r. ⌜ (r * 64 ≤ live) × (r * 64 ≤ defaults) ⌝ }
 {
-    least(live, defaults) / 64
+    at_most(live, defaults) / 64
 }
 
 // The reset of a slot, as far as both slices have it.
@@ -268,7 +263,7 @@ pub fn link_reset_next(
 pub fn cold_reset(live: &mut [u32], defaults: &[u32])
     ensures { λ _. ⌜ now (live .exit) ≡ coldReset (now (live .entry)) (now (defaults .entry)) ⌝ }
 {
-    let end = least(live.len(), defaults.len());
+    let end = at_most(live.len(), defaults.len());
     let mut n = 0;
     while n < end {
         live[n] = defaults[n];

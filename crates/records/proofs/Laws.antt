@@ -15,11 +15,10 @@ use Rattle.bits.specs.Bits.{bit}
 use Rattle.times.specs.declared.Nanos.{Nanos}
 use Rattle.times.specs.Moments.{greatestNanos, sumOf, clockEnd}
 use Rattle.registers.specs.declared.Kind.{Kind}
-use Rattle.registers.specs.declared.Kind.the-variants.{Endpoint}
 use Rattle.registers.specs.Rows.{flrCapabilityWord, startsFlr, deviceControl, deviceZeros, readsZero}
 use Rattle.registers.specs.Words.{writeWord, hardwareSet, startsD3hot}
 use Rattle.config_space.specs.Functions.{linkResetSlot}
-use Rattle.registers.proofs.Laws.{read-zero}
+use Rattle.registers.proofs.Laws.{read-zero, device-zeros}
 use Rattle.config_space.proofs.Slots.{link-reset-slot-others, flr-reset-slot-others}
 use Rattle.frs_queue.specs.declared.Tally.{Tally}
 use Rattle.frs_queue.specs.Queue.{noTally}
@@ -243,10 +242,6 @@ two-advances-are-one setup defaults s a b few h =
 
 -- ---- word 1Eh
 
-zero-bits : (kind : Kind) (k : ℕ) → bit (readsZero kind deviceControl) k ≡ bit deviceZeros k
-unfolding readsZero
-zero-bits Endpoint k = refl
-
 -- In every read of word 1Eh answered 0, data bits 15 and 21 are 0, whatever the live registers hold.
 pub device-control-reads-0 : (setup : Setup) (defaults : List ℕ) (s : State) (q : Request) → q .word ≡ 0x1E → statusOf setup defaults s (Read q) ≡ 0
     → (bit (dataOf setup defaults s (Read q)) 15 ≡ false) × (bit (dataOf setup defaults s (Read q)) 21 ≡ false)
@@ -259,7 +254,7 @@ device-control-reads-0 setup defaults s q w z = (at 15 (omega arith) refl, at 21
     at : (k : ℕ) → k < 32 → bit deviceZeros k ≡ true → bit (dataOf setup defaults s (Read q)) k ≡ false
     at k l e =
         ap (λ (n : ℕ). bit n k) (read-done-data setup defaults s q (answered-0 setup defaults s true q 0 z))
-        ∙ read-zero kind (q .word) (wordAt (s .live) (q .slot) (q .word)) (q .enables) k l (ap (λ (i : ℕ). bit (readsZero kind i) k) w ∙ zero-bits kind k ∙ e)
+        ∙ read-zero kind (q .word) (wordAt (s .live) (q .slot) (q .word)) (q .enables) k l (ap (λ (i : ℕ). bit (readsZero kind i) k) w ∙ device-zeros kind k ∙ e)
 
 -- ---- a slot other than the one addressed
 

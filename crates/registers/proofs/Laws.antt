@@ -14,7 +14,7 @@ use Rattle.bits.proofs.Tests.{all, all-at, truth, both-left, both-right}
 use Rattle.registers.specs.declared.Row.{Row}
 use Rattle.registers.specs.declared.Kind.{Kind}
 use Rattle.registers.specs.declared.Kind.the-variants.{Endpoint}
-use Rattle.registers.specs.Rows.{rowOf, endpointRow, isW, isC, isS, isK, lawful, pmcsr, deviceControl, readsZero, defaultMustBeZero, checkedWords, defaultAllowed, startsFlr}
+use Rattle.registers.specs.Rows.{rowOf, endpointRow, isW, isC, isS, isK, lawful, pmcsr, deviceControl, deviceZeros, readsZero, defaultMustBeZero, checkedWords, defaultAllowed, startsFlr}
 use Rattle.registers.specs.Words.{laneMask, powerState, stays, heldBit, readWord, writeBit, writeWord, resetBit, linkReset, flrReset, hardwareSet}
 use Rattle.registers.proofs.Rules.{every-kind, noBits, row-past}
 
@@ -263,6 +263,11 @@ fixed-tested = every-kind (λ kind. all 64 (λ i. all 32 (fixedAt kind i))) tt
 zero-past : (kind : Kind) (i : ℕ) → 64 ≤ i → readsZero kind i ≡ 0
 unfolding readsZero
 zero-past Endpoint i h = rw (ne-eqb i 30 (λ e. omega arith)) refl
+
+-- Word 1Eh reads 0 in bits 15 and 21, whatever the kind.
+pub device-zeros : (kind : Kind) (k : ℕ) → bit (readsZero kind deviceControl) k ≡ bit deviceZeros k
+unfolding readsZero
+device-zeros Endpoint k = refl
 
 -- a bit that always reads 0 is neither in W nor in C, and no default may have it set
 pub reads-zero-fixed : (kind : Kind) (i k : ℕ) → k < 32

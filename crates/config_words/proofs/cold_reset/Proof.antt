@@ -18,8 +18,8 @@ Inv-loop live₀ defaults end n₀ live n = (n ≤ end) × (length live ≡ leng
 abbrev μ-loop : tie.MeasureT-loop
 μ-loop live₀ defaults end n₀ live n = end - n
 
-least-requires : tie.Need-least-requires Inv-loop μ-loop
-least-requires c κs = search needs
+at-most-requires : tie.Need-at-most-requires Inv-loop μ-loop
+at-most-requires c κs = search needs
 
 loop-holds : tie.Need-loop-holds Inv-loop μ-loop
 loop-holds c = (omega arith, refl, none-yet _ _ _ _)
@@ -74,7 +74,7 @@ cold-reset-spec =
     (tie.spec
     Inv-loop
     μ-loop
-    least-requires
+    at-most-requires
     loop-holds
     mul-live
     shared-slice-read-live

@@ -21,11 +21,11 @@ Inv-loop reset from to live₀ defaults end n₀ live n =
 abbrev μ-loop : tie.MeasureT-loop
 μ-loop reset from to live₀ defaults end n₀ live n = end - n
 
-least-requires : tie.Need-least-requires Inv-loop μ-loop
-least-requires c κs = search needs
+at-most-requires : tie.Need-at-most-requires Inv-loop μ-loop
+at-most-requires c κs = search needs
 
-least-requires-2 : tie.Need-least-requires-2 Inv-loop μ-loop
-least-requires-2 c κs = search needs
+at-most-requires-2 : tie.Need-at-most-requires-2 Inv-loop μ-loop
+at-most-requires-2 c κs = search needs
 
 loop-holds : tie.Need-loop-holds Inv-loop μ-loop
 loop-holds c = (omega arith, omega arith, refl, none-yet _ _ _ _)
@@ -96,8 +96,8 @@ reset-words-spec =
     (tie.spec
     Inv-loop
     μ-loop
-    least-requires
-    least-requires-2
+    at-most-requires
+    at-most-requires-2
     loop-holds
     mask-in-requires
     mul-with-defaults

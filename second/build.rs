@@ -1,4 +1,4 @@
-//! With the feature `library`, links the proved static library: `libexports.a` in the folder that OTSNEBURA_LIBRARY names,
+//! With the feature `library`, links the proved static library: `libstaticlib.a` in the folder that OTSNEBURA_LIBRARY names,
 //! or in `target/staticlib` of the repository.
 
 use std::env;
@@ -18,11 +18,11 @@ fn main() {
         return;
     }
     let folder = folder();
-    let archive = folder.join("libexports.a");
+    let archive = folder.join("libstaticlib.a");
     if !archive.exists() {
-        panic!("{} is not there; `rt staticlib exports` makes it", archive.display());
+        panic!("{} is not there; `rt staticlib staticlib` makes it", archive.display());
     }
     println!("cargo:rerun-if-changed={}", archive.display());
     println!("cargo:rustc-link-search=native={}", folder.display());
-    println!("cargo:rustc-link-lib=static=exports");
+    println!("cargo:rustc-link-lib=static=staticlib");
 }

@@ -1,6 +1,5 @@
 -- What the by-value core does with the statuses that are lent, padded with Ready to 32 or cut to 32, is what is said of the statuses
 -- that are lent: the padding is never seen, and a slice of more than 32 is refused for its length alone.
--- Assumes nothing.
 use Prim.Native.Nat.{ℕ, _-_, _<_, _≤_}
 use mathlib.Core.Path.{_≡_, refl, ap, sym, _∙_}
 use mathlib.Core.List.{List, _++_, append-nil}
@@ -18,13 +17,13 @@ use Rattle.feed.specs.declared.Fed.{Fed}
 use Rattle.set_up.specs.declared.SetUp.{SetUp}
 use Rattle.demand3.specs.Held.{Held, held, lentOf}
 use Rattle.demand3.specs.SettingUp.{Prepared, freshHeld, setsUp}
-use Rattle.set_up.specs.Prepared.{prepared}
+use Rattle.set_up.specs.inner.Prepared.{prepared}
 use Rattle.demand3.specs.Feeding.{bench, feeds}
 use Rattle.feed.specs.Left.{left}
 use Rattle.set_up.proofs.Lent.{length-lent, lent-take}
 use Rattle.set_up.proofs.Stopping.{too-many}
 use Rattle.bench.specs.declared.Outcome.{Outcome}
-use Rattle.statuses.specs.Statuses.{storedOver}
+use Rattle.lent_statuses.specs.inner.Statuses.{storedOver}
 use Rattle.bench.specs.Entries.{leftBySetUp, leftByFeed}
 
 -- the statuses as the core has them

@@ -1,5 +1,4 @@
 -- What the types hold of a port: its carried array is of bytes.
--- Assumes nothing.
 use Prim.Native.Nat.{ℕ}
 use mathlib.Core.List.{List, [], _∷_, map}
 use mir.Val.{Val}

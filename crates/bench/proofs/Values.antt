@@ -1,5 +1,4 @@
 -- The machine values of a port and of a set-up, each by a name that stays shut: a walk's context holds the name and not the fields.
--- Assumes nothing.
 use mathlib.Core.List.{List, [], _∷_}
 use mir.Val.{Val}
 use denote.Laws.{Is, Tells}

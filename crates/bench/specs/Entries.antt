@@ -1,5 +1,4 @@
 -- What the public entries give, and all that is lent as they leave it.
--- Assumes nothing.
 use Prim.Native.Nat.{ℕ}
 use mathlib.Core.List.{List}
 use Rattle.trace.specs.Lent.{Left}

@@ -5,12 +5,12 @@ ghost use Rattle.demand3.specs.SettingUp.{setsUp};
 ghost use Rattle.demand3.specs.Feeding.{feeds};
 ghost use Rattle.bench.specs.Entries.{leftBySetUp, leftByFeed};
 use feed::Fed;
+use lent_statuses::load;
+use lent_statuses::store;
 use readiness::Setup;
 use readiness::Status;
 use records::Port;
 use set_up::SetUp;
-use statuses::load;
-use statuses::store;
 
 // What a call of feed gives: its number, and how many bytes it consumed and wrote.
 pub struct Outcome {

@@ -1,5 +1,4 @@
 -- A choice by a test.
--- Assumes nothing.
 use mathlib.Core.Path.{_≡_, refl}
 use mathlib.Core.Bool.{Bool, true, false, not, cond, true≢false, false≢true}
 

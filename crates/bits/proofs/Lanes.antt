@@ -1,5 +1,4 @@
 -- Byte lanes of a word: the shifts that spread four enables over the word, and a byte of a word.
--- Assumes nothing.
 use mathlib.Core.Path.{_≡_}
 use Prim.Native.Nat.{ℕ, _*_, _%_, _^_, _<_}
 use lib.Bits.{bitAnd, bitOr}

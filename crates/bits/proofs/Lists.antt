@@ -1,5 +1,4 @@
 -- Lists: the one that a loop makes element by element, what is done and then what is left of the old list; one by its elements; fronts and padding.
--- Assumes nothing.
 use mathlib.Core.Path.{_≡_, refl, sym, ap, ap₂, _∙_}
 use mathlib.Core.Bool.{Bool, true, false, cond}
 use mathlib.Core.Logic.{⊎-elim}

@@ -1,5 +1,4 @@
 -- Laws by a test that antt computes: at every number below a bound, and at every choice of some Bools.
--- Assumes nothing.
 use mathlib.Core.Path.{_≡_, refl, sym, subst, _∙_}
 use mathlib.Core.Bool.{Bool, true, false, not, _&&_, _||_, Bool·beq, true≢false, or-true}
 use mathlib.Core.Logic.{⊎-elim}

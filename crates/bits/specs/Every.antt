@@ -1,5 +1,4 @@
 -- A test of every number below a bound.
--- Assumes nothing.
 use Prim.Native.Nat.{ℕ, zero, suc}
 use mathlib.Core.Bool.{Bool, true, false, _&&_}
 

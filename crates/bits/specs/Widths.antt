@@ -1,5 +1,4 @@
 -- Small helpers on numbers.
--- Assumes nothing.
 use Prim.Native.Nat.{ℕ, min}
 
 -- n, but no more than `most`

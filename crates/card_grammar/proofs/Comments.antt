@@ -1,5 +1,4 @@
 -- A comment is not read.
--- Assumes nothing.
 use mathlib.Core.Path.{_≡_, refl, sym, ap, ap₂, _∙_}
 use mathlib.Core.Bool.{Bool, true, false, cond}
 use mathlib.Core.List.{List, [], _∷_, _++_}
@@ -10,10 +9,10 @@ use lib.ListN.{length, take, drop, length-drop}
 use lib.Seq.{drop-append-le, take-append-le}
 use Rattle.card_grammar.specs.declared.Reason.{Reason}
 use Rattle.card_grammar.specs.declared.Reason.the-variants.{Fine, UnknownWord, BadNumber, LineTooShort, LineTooLong}
-use Rattle.fields.specs.Text.{numberAt, isBlank, inField, run, runEnd, fieldStart, fieldEnd, field, noField, same, noNumber, numberOf}
+use Rattle.text_fields.specs.Text.{numberAt, isBlank, inField, run, runEnd, fieldStart, fieldEnd, field, noField, same, noNumber, numberOf}
 use Rattle.card_grammar.specs.Names.{nameSlots, nameQueue, nameBus, namePort, nameSlot, nameWord, nameReset, nameDlUp, nameFlr, nameD3hot, nameFrs, nameYes, nameNo}
-use Rattle.card_grammar.specs.Sheet.{unfit, wantsWord, wantsNumber, wantsEnd, whyNotNumber, enterNumber, slotAt, hexAt, codeAt, wordAllowed, whyNotWord, enterWord, isYes, wantsYesNo, wantsCode, whyNotCodes, whyNotFrs, whyNotSlot, putCode, putFrs, enterSlot, isFact, enterLine}
-use Rattle.fields.proofs.Runs.{run-most, runEnd-most, start-most, end-most}
+use Rattle.card_grammar.specs.Grammar.{unfit, wantsWord, wantsNumber, wantsEnd, whyNotNumber, enterNumber, slotAt, hexAt, codeAt, wordAllowed, whyNotWord, enterWord, isYes, wantsYesNo, wantsCode, whyNotCodes, whyNotFrs, whyNotSlot, putCode, putFrs, enterSlot, isFact, enterLine}
+use Rattle.text_fields.proofs.Runs.{run-most, runEnd-most, start-most, end-most}
 
 -- a run ends at the latest where a byte stands that doesn't pass
 run-append : (p : ℕ → Bool) (s t : List ℕ) (b : ℕ) → p b ≡ false → run p (s ++ b ∷ t) ≡ run p s

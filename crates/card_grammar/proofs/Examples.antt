@@ -1,5 +1,4 @@
 -- Cards by their text, as antt computes them.
--- Assumes nothing.
 use mathlib.Core.Path.{_≡_, refl}
 use mathlib.Core.Bool.{Bool, true, false, cond}
 use mathlib.Core.List.{List, [], _∷_}
@@ -11,10 +10,10 @@ use Rattle.bits.specs.Lists.{listed}
 use Rattle.card_grammar.specs.declared.Reason.{Reason}
 use Rattle.card_grammar.specs.declared.Reason.the-variants.{Fine, UnknownWord, BadNumber, LineTooShort, LineTooLong, OutOfRange, SlotsFirst, NamedTwice, Missing, NoRoom}
 use Rattle.card_grammar.specs.declared.CardRead.{CardRead}
-use Rattle.card_grammar.specs.Sheet.{firstOf, unfit, wantsWord, wantsNumber, wantsEnd, inRange, notTwice, slotAllowed, put, whyNotNumber, enterNumber, offsetAllowed, wordAllowed, whyNotWord, enterWord, wantsYesNo, wantsCode, whyNotCodes, whyNotFrs, whyNotSlot, putCode, putFrs, enterSlot, enterLine, readLines}
+use Rattle.card_grammar.specs.Grammar.{firstOf, unfit, wantsWord, wantsNumber, wantsEnd, inRange, notTwice, slotAllowed, put, whyNotNumber, enterNumber, offsetAllowed, wordAllowed, whyNotWord, enterWord, wantsYesNo, wantsCode, whyNotCodes, whyNotFrs, whyNotSlot, putCode, putFrs, enterSlot, enterLine, readLines}
 use Rattle.card_grammar.specs.Card.{slotsFrom, setupFrom, missing, room, wordsFrom, storedWords, Outcome, outcomeFrom, cardOf}
 use Rattle.bits.specs.Text.{chars}
-use Rattle.fields.specs.Text.{inLine, linesOf, isBlank, inField, run, runEnd, fieldStart, field, noField, same, digitOf, valueFrom, widthAllowed, numberOf}
+use Rattle.text_fields.specs.Text.{inLine, linesOf, isBlank, inField, run, runEnd, fieldStart, field, noField, same, digitOf, valueFrom, widthAllowed, numberOf}
 
 -- ---- whole texts, with 2,048 words lent
 

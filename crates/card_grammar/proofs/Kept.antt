@@ -1,5 +1,4 @@
 -- What the lines leave in the sheet: each number within its limits.
--- Assumes nothing.
 use mathlib.Core.Path.{_≡_, refl, sym, ap, _∙_}
 use mathlib.Core.Bool.{Bool, true, false, _&&_, _||_, cond, false≢true}
 use mathlib.Core.List.{List, [], _∷_}
@@ -15,11 +14,11 @@ use Rattle.bits.proofs.Bits.{one-most}
 use Rattle.bits.proofs.Tests.{both-left, both-right, not-both, or-last}
 use Rattle.card_grammar.specs.declared.Reason.{Reason}
 use Rattle.card_grammar.specs.declared.Reason.the-variants.{Fine, BadNumber, LineTooShort, OutOfRange, SlotsFirst, Missing}
-use Rattle.fields.specs.Text.{numberAt, field, noField, noNumber}
-use Rattle.card_grammar.specs.Sheet.{notNamed, wordPlace, slotsPlace, queuePlace, busPlace, portPlace, entryPlace, places, named, isFine, firstOf, unfit, wantsWord, wantsNumber, inRange, slotAllowed, Entered, entered, put, whyNotNumber, enterNumber, slotAt, hexAt, codeAt, offsetAllowed, wordAllowed, whyNotWord, enterWord, isYes, wantsCode, whyNotCodes, whyNotFrs, whyNotSlot, putCode, putFrs, enterSlot, isFact, enterLine, Told, readLines}
+use Rattle.text_fields.specs.Text.{numberAt, field, noField, noNumber}
+use Rattle.card_grammar.specs.Grammar.{notNamed, wordPlace, slotsPlace, queuePlace, busPlace, portPlace, entryPlace, places, named, isFine, firstOf, unfit, wantsWord, wantsNumber, inRange, slotAllowed, Entered, entered, put, whyNotNumber, enterNumber, slotAt, hexAt, codeAt, offsetAllowed, wordAllowed, whyNotWord, enterWord, isYes, wantsCode, whyNotCodes, whyNotFrs, whyNotSlot, putCode, putFrs, enterSlot, isFact, enterLine, Told, readLines}
 use Rattle.card_grammar.specs.Names.{nameSlots, nameQueue, nameBus, namePort, nameSlot, nameWord, nameReset, nameDlUp, nameFlr, nameD3hot}
 use Rattle.card_grammar.specs.Card.{blankSheet, namedBelow}
-use Rattle.fields.proofs.Numbers.{code-small}
+use Rattle.text_fields.proofs.Numbers.{code-small}
 
 -- ---- reasons
 

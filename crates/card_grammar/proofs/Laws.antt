@@ -1,5 +1,4 @@
 -- What holds of every reading.
--- Assumes nothing.
 use mathlib.Core.Path.{_≡_, refl, sym, ap, _∙_}
 use mathlib.Core.Bool.{Bool, true, false, cond}
 use mathlib.Core.List.{List, [], _∷_, _++_}
@@ -11,8 +10,8 @@ use lib.ListN.{length}
 use borrow.Author.Tests.{eqb-true}
 use Rattle.card_grammar.specs.declared.Reason.{Reason}
 use Rattle.card_grammar.specs.declared.Reason.the-variants.{NoRoom}
-use Rattle.fields.specs.Text.{linesOf}
-use Rattle.card_grammar.specs.Sheet.{notNamed, wordPlace, slotsPlace, queuePlace, busPlace, portPlace, entryPlace, named, isFine, firstOf, enterLine, Told, readLines}
+use Rattle.text_fields.specs.Text.{linesOf}
+use Rattle.card_grammar.specs.Grammar.{notNamed, wordPlace, slotsPlace, queuePlace, busPlace, portPlace, entryPlace, named, isFine, firstOf, enterLine, Told, readLines}
 use Rattle.card_grammar.specs.Card.{blankSheet, namedBelow, setupFrom, mustBeNamed, missing, room, wordsFrom, storedWords, outcomeFrom, cardOf}
 use Rattle.card_grammar.proofs.Comments.{comment-line}
 use Rattle.card_grammar.proofs.Kept.{fine-both, fine-test, fine-named, kept-lines, kept-blank, within, orZero, whole-word, whole-code}

@@ -1,5 +1,4 @@
 -- The card that a text is, or why it is none.
--- Assumes nothing.
 use Prim.Native.Nat.{ℕ, zero, suc, _+_, _*_, _%_}
 use mathlib.Core.Bool.{Bool, cond}
 use mathlib.Core.List.{List, [], _∷_, _++_}
@@ -9,8 +8,8 @@ use Rattle.bits.specs.Lists.{listed}
 use Rattle.times.specs.declared.Code.{Code}
 use Rattle.readiness.specs.declared.Slot.{Slot}
 use Rattle.readiness.specs.declared.Setup.{Setup}
-use Rattle.fields.specs.Text.{linesOf}
-use Rattle.card_grammar.specs.Sheet.{notNamed, slotsPlace, queuePlace, busPlace, portPlace, entryPlace, places, named, isFine, firstOf, Told, readLines}
+use Rattle.text_fields.specs.Text.{linesOf}
+use Rattle.card_grammar.specs.Grammar.{notNamed, slotsPlace, queuePlace, busPlace, portPlace, entryPlace, places, named, isFine, firstOf, Told, readLines}
 use Rattle.card_grammar.specs.declared.Reason.{Reason}
 use Rattle.card_grammar.specs.declared.Reason.the-variants.{Fine, Missing, NoRoom}
 use Rattle.card_grammar.specs.declared.CardRead.{CardRead}

@@ -1,3 +1,3 @@
 pub mod Names
-pub mod Sheet
+pub mod Grammar
 pub mod Card

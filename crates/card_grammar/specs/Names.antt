@@ -1,5 +1,4 @@
 -- The words of the grammar, as bytes.
--- Assumes nothing.
 use Prim.Native.Nat.{ℕ}
 use mathlib.Core.List.{List}
 use Rattle.bits.specs.Text.{chars}

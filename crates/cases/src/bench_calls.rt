@@ -14,7 +14,7 @@ pub fn set_up_lent(
 ) -> SetUp {
     let port = turn.port;
     let statuses = turn.statuses;
-    by_value::set_up_first(setup, port, statuses, lent, live, defaults, cells)
+    bench_by_value::set_up_first(setup, port, statuses, lent, live, defaults, cells)
 }
 
 pub fn feed_lent(
@@ -29,7 +29,7 @@ pub fn feed_lent(
 ) -> Fed {
     let port = turn.port;
     let statuses = turn.statuses;
-    by_value::feed_first(
+    bench_by_value::feed_first(
         setup,
         port,
         statuses,

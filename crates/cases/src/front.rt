@@ -3,12 +3,12 @@ ghost use Prim.Native.Nat.{_<_};
 use bits::byte_at;
 use bits::usize_of_u8;
 use bits::usize_of_u16;
-use image::numbers::two_at;
-use image::state::is_yes;
-use image::state::is_yes_or_no;
 use readiness::Setup;
 use readiness::Slot;
 use readiness::blank_slot;
+use state_image::numbers::two_at;
+use state_image::state::is_yes;
+use state_image::state::is_yes_or_no;
 
 // How many bytes the front has: 11, and 13 for each entry.
 pub const FRONT: usize = 427;

@@ -1,6 +1,6 @@
 // Bytes and words from standard input.
 use bits::byte_at;
-use image::numbers::words_from;
+use state_image::numbers::words_from;
 
 pub enum Byte {
     End,

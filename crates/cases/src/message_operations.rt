@@ -6,8 +6,8 @@ use crate::output::write_number;
 use bits::at_most;
 use bits::byte_at;
 use bits::usize_of_u8;
-use image::numbers::two_at;
 use messages::Message;
+use state_image::numbers::two_at;
 
 // The most bytes of a message, and of a room for one.
 const MOST: usize = 40;

@@ -13,17 +13,17 @@ use bits::at_most;
 use bits::u64_of_usize;
 use bits::usize_of_u16;
 use feed::Fed;
-use image::numbers::put;
-use image::numbers::put_four;
-use image::numbers::two_at;
-use image::state::image_size;
-use image::state::is_good_image;
-use image::state::port_in;
-use image::state::state_bytes;
-use image::state::statuses_in;
 use readiness::Setup;
 use readiness::Status;
 use records::Port;
+use state_image::numbers::put;
+use state_image::numbers::put_four;
+use state_image::numbers::two_at;
+use state_image::state::image_size;
+use state_image::state::is_good_image;
+use state_image::state::port_in;
+use state_image::state::state_bytes;
+use state_image::state::statuses_in;
 
 fn write_state(lent: usize, port: Port, statuses: [Status; 32], live: &[u32], cells: &[u32]) {
     let image = state_bytes(port, statuses);

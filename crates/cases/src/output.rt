@@ -1,5 +1,5 @@
 // Bytes and words to standard output.
-use image::numbers::put_words;
+use state_image::numbers::put_words;
 
 // Writes the first n bytes, if there are as many.
 pub fn write_first(bytes: &[u8], n: usize) {

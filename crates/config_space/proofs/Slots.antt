@@ -1,5 +1,4 @@
 -- What follows of the resets of the lent words: of one slot, and of all.
--- Assumes nothing.
 use mathlib.Core.Path.{_≡_, refl, sym, ap, _∙_}
 use mathlib.Core.Bool.{Bool, true, false, _&&_, _||_, cond, true≢false, and-false}
 use mathlib.Core.List.{List}

@@ -1,5 +1,4 @@
 -- What a reset does to the lent live registers, 64 words to a slot: a reset of one slot, and of all.
--- Assumes nothing.
 use Prim.Native.Nat.{ℕ, zero, suc, _/_, _%_}
 use mathlib.Core.Bool.{Bool, true, _&&_}
 use mathlib.Core.List.{List}

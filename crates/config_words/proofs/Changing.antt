@@ -1,5 +1,4 @@
 -- The words that have bits in W or in C: every other word stays in a reset, and a reset by masks of these is the reset of all.
--- Assumes nothing.
 use mathlib.Core.Path.{_≡_, refl, sym, ap, _∙_}
 use mathlib.Core.Bool.{Bool, true, false, not, _&&_, _||_}
 use mathlib.Core.List.{List}
@@ -19,7 +18,7 @@ use Rattle.config_words.specs.declared.ResetMasks.{ResetMasks}
 use Rattle.config_words.specs.declared.LinkMasks.{LinkMasks}
 use Rattle.config_space.specs.Functions.{resetWhere}
 use Rattle.config_space.proofs.Slots.{same-reset}
-use Rattle.config_words.specs.Resetting.{changing, changingBetween, maskIn, byMask, linkMasks, flrMasks, linkMasksOf}
+use Rattle.config_words.specs.inner.Resetting.{changing, changingBetween, maskIn, byMask, linkMasks, flrMasks, linkMasksOf}
 use Rattle.config_words.proofs.Spans.{not-both, none-of, skip, next, two-resets, only-of}
 
 -- ---- which words

@@ -1,5 +1,4 @@
 -- The words of the lent lists from one index up to another: a reset of them word by word, and which of them a slot has.
--- Assumes nothing.
 use mathlib.Core.Path.{_≡_, refl, sym, ap, ap₂, _∙_, subst}
 use mathlib.Core.Bool.{Bool, true, false, _&&_, _||_, cond}
 use mathlib.Core.List.{List}
@@ -13,7 +12,7 @@ use Rattle.bits.proofs.Lists.{getD-replaced, is-replaced, replaced-none, replac
 use Rattle.bits.proofs.Tests.{same-test, both-left, both-right, both, untrue}
 use Rattle.config_space.proofs.Slots.{length-reset, same-words, split, after}
 use Rattle.config_space.specs.Functions.{inSlot, inAnySlot, resetWhere}
-use Rattle.config_words.specs.Resetting.{between}
+use Rattle.config_words.specs.inner.Resetting.{between}
 
 -- i is from a up to b, and below d
 abbrev within : (a b d i : ℕ) → Bool

@@ -1,1 +1,1 @@
-pub mod Resetting
+pub mod inner

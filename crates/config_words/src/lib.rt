@@ -5,7 +5,7 @@ ghost use lib.ListN.{length, getD, set};
 ghost use Rattle.registers.specs.Rows.{masks};
 ghost use Rattle.registers.specs.Words.{withDefaults};
 ghost use Rattle.config_space.specs.Functions.{resetWhere, inSlot, linkResetSlot, flrResetSlot, coldReset};
-ghost use Rattle.config_words.specs.Resetting.{between, maskIn, byMask, linkMasks, flrMasks, linkMasksOf, changingBetween};
+ghost use Rattle.config_words.specs.inner.Resetting.{between, maskIn, byMask, linkMasks, flrMasks, linkMasksOf, changingBetween};
 use bits::at_most;
 use registers::DEVICE_CONTROL;
 use registers::Kind;

@@ -1,5 +1,4 @@
 -- MARKED CASES 1 to 10 (01), proved together: a list of what the definitions give and what 01 wants, and one proof that all agree.
--- Assumes nothing.
 use Prim.Native.Nat.{ℕ, _-_}
 use mathlib.Core.Path.{_≡_, refl}
 use mathlib.Core.Bool.{true}

@@ -1,5 +1,4 @@
 -- DEMAND 3 AT THE BENCH, proved as specs/Claim.antt states it.
--- Assumes nothing.
 use Prim.Native.Nat.{ℕ, zero, suc}
 use mathlib.Core.Path.{_≡_, refl, ap, sym, _∙_}
 use mathlib.Core.Bool.{Bool, _||_}

@@ -1,5 +1,4 @@
 -- The device's records keep a good state good.
--- Assumes nothing.
 use Prim.Native.Nat.{ℕ, _-_}
 use mathlib.Core.List.{List}
 use lib.ListN.{length}

@@ -1,5 +1,4 @@
 -- NUMBERS GIVEN FOR NO, 1 to 5 (01): what each says of the set-up and of all that is lent, and the first that applies.
--- Assumes nothing.
 use Prim.Native.Nat.{ℕ, zero, suc, _*_, _≤_, _<_}
 use mathlib.Core.Path.{_≡_, refl, ap, sym, subst, _∙_}
 use mathlib.Core.Bool.{Bool, true, false, not, _&&_, _||_, true≢false, and-false}

@@ -1,6 +1,5 @@
 -- What a set-up leaves (01, "Set-up, and memory lent"): nothing is changed where it is refused, else all that is lent is as 01 says, and
 -- the port is sound, unbroken, with nothing carried.
--- Assumes nothing.
 use Prim.Native.Nat.{ℕ, zero, suc, _+_, _≤_, _<_}
 use mathlib.Core.Path.{_≡_, refl, ap, ap₂, sym, _∙_}
 use mathlib.Core.Bool.{Bool, true, false, cond}

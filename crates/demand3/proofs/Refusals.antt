@@ -1,5 +1,4 @@
 -- Laws of refusals 1 to 4: tests at every slot, and the first test that fails.
--- Assumes nothing.
 use Prim.Native.Nat.{ℕ, _*_, _≤_, _<_}
 use mathlib.Core.Path.{_≡_, refl, ap, sym}
 use mathlib.Core.Bool.{Bool, true, false, _&&_, cond}

@@ -1,6 +1,5 @@
 -- The device at the bench fulfils what the theorem on lists of calls asks: from a set-up that isn't refused and sound memory on, every record
 -- keeps the state sound and the lengths as they are lent.
--- Assumes nothing.
 use Prim.Native.Nat.{ℕ, zero, suc, _-_, _<_}
 use mathlib.Core.Path.{_≡_, refl, ap, sym, _∙_}
 use mathlib.Core.Bool.{true}

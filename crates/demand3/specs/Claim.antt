@@ -1,5 +1,4 @@
 -- DEMAND 3 AT THE BENCH: every list of calls is one trace on the plain bench (01, "One trace").
--- Assumes nothing.
 use Prim.Native.Nat.{ℕ, suc, _+_, _/_, _%_, _≤_, _<_}
 use mathlib.Core.Path.{_≡_}
 use mathlib.Core.Bool.{Bool, true, false, _||_}

@@ -1,5 +1,4 @@
 -- Feed, and lists of calls of it (01, "Numbers given for no", "One trace").
--- Assumes nothing.
 use Prim.Native.Nat.{ℕ}
 use mathlib.Core.List.{List}
 use Rattle.trace.specs.Lent.{Lent, Left, feeds as feedsOn}

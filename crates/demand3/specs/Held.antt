@@ -1,5 +1,4 @@
 -- What is lent and goes from call to call.
--- Assumes nothing.
 use Prim.Native.Nat.{ℕ, _-_}
 use mathlib.Core.Bool.{false}
 use mathlib.Core.List.{List, _++_}

@@ -1,5 +1,4 @@
 -- Numbers given for no (01), 1 to 5: the first that applies.
--- Assumes nothing.
 use Prim.Native.Nat.{ℕ, _*_}
 use mathlib.Core.Bool.{Bool, true, _&&_, cond}
 use mathlib.Core.List.{List, [], _∷_}

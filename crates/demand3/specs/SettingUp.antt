@@ -1,5 +1,4 @@
 -- Set-up (01, "Set-up, and memory lent").
--- Assumes nothing.
 use Prim.Native.Nat.{ℕ}
 use mathlib.Core.List.{List}
 use lib.ListN.{length, replicate}

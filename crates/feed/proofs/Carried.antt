@@ -1,6 +1,5 @@
 -- A call with bytes carried, as code runs it: the record that they begin, by a call of its own with nothing carried, and then a call on the rest of the
 -- input.
--- Assumes nothing.
 use Prim.Native.Nat.{ℕ, suc, _+_, _-_, _≤_, _<_}
 use mathlib.Core.Path.{_≡_, refl, ap, sym, _∙_, subst}
 use mathlib.Core.Bool.{true}

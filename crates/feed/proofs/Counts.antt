@@ -1,5 +1,4 @@
 -- The counts of a call: within what was lent, and with 0 the whole input.
--- Assumes nothing.
 use Prim.Native.Nat.{ℕ, zero, suc, _-_, _≤_}
 use mathlib.Core.Path.{_≡_, refl}
 use mathlib.Core.Bool.{false}

@@ -1,5 +1,4 @@
 -- Records that take their turn apart: those that touch one slot, and an advance before any slot becomes Ready; and moments before which none does.
--- Assumes nothing.
 use Prim.Native.Nat.{ℕ, _<_}
 use native.Mathlib.Omega.{arith}
 use mathlib.Core.Path.{_≡_, refl, sym, ap, _∙_, subst}
@@ -20,7 +19,7 @@ use Rattle.readiness.specs.declared.Setup.{Setup}
 use Rattle.readiness.specs.declared.Dev.{Dev}
 use Rattle.readiness.specs.Status.{ready, allReady, entryOf}
 use Rattle.readiness.specs.Events.{due}
-use Rattle.readiness.specs.Earliest.{readyTime, PhaseFrom, ReadyFrom}
+use Rattle.readiness.specs.inner.Earliest.{readyTime, PhaseFrom, ReadyFrom}
 use Rattle.readiness.proofs.Bounds.{bound-quiet, bound-set, bound-least}
 use Rattle.records.specs.declared.Record.{Record}
 use Rattle.frs_queue.specs.declared.Queue.{Queue}
@@ -33,11 +32,11 @@ use Rattle.records.specs.State.{State, Seat, state, statusAt, seat, kindOfEntry
 use Rattle.readiness.specs.Fields.{withQueue}
 use Rattle.records.specs.PortRecords.{Front, front}
 use Rattle.records.specs.Answer.{Ran, answerBytes}
-use Rattle.records.specs.Parts.{partAt, partOf, slotRun, portRun, cardRun}
+use Rattle.records.specs.inner.Parts.{partAt, partOf, slotRun, portRun, cardRun}
 use Rattle.records.proofs.SoundFacts.{owed-test}
 use Rattle.records.proofs.Parted.{run-card}
 use Rattle.records.specs.Sound.{Sound, Fitting}
-use Rattle.feed.specs.Turns.{Turned}
+use Rattle.feed.specs.inner.Turns.{Turned}
 use Rattle.feed.proofs.Running.{Runs, slot-runs, port-runs}
 
 -- ---- moments before which no slot becomes Ready

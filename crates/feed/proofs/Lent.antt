@@ -1,5 +1,4 @@
 -- Laws of statuses that are lent as numbers, three to a status.
--- Assumes nothing.
 use Prim.Native.Nat.{ℕ, _*_, _≤_}
 use mathlib.Core.Path.{_≡_, refl, ap, sym, _∙_}
 use mathlib.Core.List.{List, _++_}
@@ -8,7 +7,7 @@ use lib.ListN.{length, take, length-append}
 use lib.Seq.{take-at}
 use Rattle.readiness.specs.declared.Status.{Status}
 use Rattle.readiness.specs.declared.Setup.{Setup}
-use Rattle.readiness.specs.Phases.{statusesIn}
+use Rattle.readiness.specs.inner.Phases.{statusesIn}
 use Rattle.readiness.proofs.PhaseNumbers.{statuses-length, statuses-take}
 use Rattle.trace.specs.Lent.{Left}
 use Rattle.records.specs.declared.Port.{Port}

@@ -1,5 +1,4 @@
 -- What holds at the head of feed's loop, that a record's turn keeps it, and what its end gives.
--- Assumes nothing.
 use Prim.Native.Nat.{ℕ, _+_, _-_, _≤_, _<_}
 use mathlib.Core.Path.{_≡_, refl, ap, sym, _∙_, subst}
 use mathlib.Core.Bool.{true}
@@ -22,9 +21,9 @@ use Rattle.records.specs.Decode.{decode}
 use Rattle.records.specs.Answer.{answerBytes}
 use Rattle.records.specs.Run.{run}
 use Rattle.demand3.specs.Held.{Held, held, opened, stateOf, carriedOf}
-use Rattle.gather.proofs.Whole.{decode-alone}
+use Rattle.decode.proofs.Whole.{decode-alone}
 use Rattle.feed.specs.Left.{carriesOn}
-use Rattle.feed.specs.Turns.{TakesTurn}
+use Rattle.feed.specs.inner.Turns.{TakesTurn}
 use Rattle.records.specs.Device.{device}
 use Rattle.demand3.specs.Feeding.{bench, feeds}
 use Rattle.demand3.proofs.Good.{Good, good-keeps}

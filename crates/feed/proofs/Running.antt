@@ -1,5 +1,4 @@
 -- A record of a call's trace: each part of the state as code runs it.
--- Assumes nothing.
 use Prim.Native.Nat.{ℕ}
 use mathlib.Core.Path.{_≡_, ap, sym, _∙_}
 use mathlib.Core.List.{List}
@@ -21,7 +20,7 @@ use Rattle.records.specs.Answer.{Ran, answerBytes}
 use Rattle.records.specs.PortRecords.{front}
 use Rattle.records.specs.Run.{run}
 use Rattle.records.specs.Sound.{Sound, Fitting}
-use Rattle.records.specs.Parts.{partOf, slotRun, slotRan, slotPut, portRun, portRan, portPut, cardRun, cardRan}
+use Rattle.records.specs.inner.Parts.{partOf, slotRun, slotRan, slotPut, portRun, portRan, portPut, cardRun, cardRan}
 use Rattle.records.proofs.Parted.{run-slot, run-port, run-card}
 use Rattle.records.specs.Device.{inBytes, device}
 

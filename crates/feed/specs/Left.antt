@@ -1,5 +1,4 @@
 -- What the code of feed gives.
--- Assumes nothing.
 use Prim.Native.Nat.{ℕ, _-_, _<_}
 use mathlib.Core.Path.{_≡_}
 use mathlib.Core.List.{List, _++_}
@@ -9,7 +8,7 @@ use Rattle.trace.specs.Format.{pad, next}
 use Rattle.trace.specs.Feed.{wholeSize, endNumber, endCount}
 use Rattle.trace.specs.Lent.{Left, refusalOr31}
 use Rattle.readiness.specs.declared.Setup.{Setup}
-use Rattle.readiness.specs.Phases.{statusesIn}
+use Rattle.readiness.specs.inner.Phases.{statusesIn}
 use Rattle.records.specs.declared.Port.{Port}
 use Rattle.demand3.specs.Held.{Held, held, lentOf, carriedOf}
 use Rattle.demand3.specs.Feeding.{bench}

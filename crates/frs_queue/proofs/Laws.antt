@@ -1,5 +1,4 @@
 -- The queue as a list of messages, oldest first: what an arrival, a removal and the register are to that list.
--- Assumes nothing.
 use mathlib.Core.Path.{_≡_, refl, sym, ap, ap₂, _∙_, subst}
 use mathlib.Core.Logic.{_≢_}
 use mathlib.Core.Bool.{Bool, true, false, cond}

@@ -1,5 +1,4 @@
 -- Tallies add up: what messages bring does not depend on what was brought before them.
--- Assumes nothing.
 use mathlib.Core.Path.{_≡_, refl, ap, _∙_}
 use mathlib.Core.Bool.{Bool, true, false, cond, or-assoc, or-false}
 use mathlib.Core.List.{List, [], _∷_}

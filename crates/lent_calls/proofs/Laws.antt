@@ -1,5 +1,4 @@
 -- What holds of the lent entries and of the copies that they make.
--- Assumes nothing.
 use Prim.Native.Nat.{ℕ, zero, suc, _-_, _<_, _≤_}
 use mathlib.Core.Path.{_≡_, refl, ap, sym, _∙_}
 use mathlib.Core.List.{List, [], _∷_, _++_}
@@ -19,7 +18,7 @@ use Rattle.demand3.specs.Feeding.{bench, feeds}
 use Rattle.demand3.specs.Claim.{refusalOf}
 use Rattle.set_up.proofs.Lent.{length-lent}
 use Rattle.demand3.proofs.Prepared.{set-up-number, set-up-refused}
-use Rattle.statuses.specs.Statuses.{storedOver}
+use Rattle.lent_statuses.specs.inner.Statuses.{storedOver}
 use Rattle.lent_calls.specs.Chain.{LentCall, leftBy, WasSetUp}
 use Rattle.bits.proofs.Numbers.{by-le}
 use Rattle.bench.proofs.Padding.{given-few, stored-few, stored-many, set-up-many, fed-many}

@@ -1,5 +1,4 @@
 -- DEMAND 3 FOR THE LENT ENTRIES, proved as specs/Chain.antt states it.
--- Assumes nothing.
 use Prim.Native.Nat.{ℕ}
 use mathlib.Core.Path.{_≡_, refl, ap, sym, _∙_}
 use mathlib.Core.List.{List, [], _∷_}

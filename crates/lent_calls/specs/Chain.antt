@@ -1,5 +1,4 @@
 -- DEMAND 3 FOR THE LENT ENTRIES: over what is lent in and what is there at exit, chained over a list of calls (01, "One trace").
--- Assumes nothing.
 use Prim.Native.Nat.{ℕ}
 use mathlib.Core.Path.{_≡_}
 use mathlib.Core.List.{List, [], _∷_}

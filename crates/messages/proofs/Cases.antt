@@ -1,5 +1,4 @@
 -- A reading and a writing by their cases.
--- Assumes nothing.
 use mathlib.Core.Path.{_≡_}
 use mathlib.Core.Bool.{true, _&&_, cond, and-eq-true-iff}
 use mathlib.Core.List.{List}

@@ -1,5 +1,4 @@
 -- Readiness messages (01, "Messages (16 bytes)"): DRS and FRS.
--- Assumes nothing.
 use Prim.Native.Nat.{ℕ, _+_, _*_, _/_, _%_, _<_}
 use mathlib.Core.Bool.{Bool, _&&_, cond}
 use mathlib.Core.List.{List, [], _∷_}

@@ -4,20 +4,20 @@ use crate::options::Options;
 use crate::options::is_usable;
 use crate::options::options_given;
 use crate::run::run;
-use cards::card_file::Loaded;
-use cards::card_file::load_card;
-use cards::card_shown::show_card;
-use desk::files::close_file;
-use desk::files::open_file;
-use desk::files::overwrite_file;
-use runs::turns::Way;
-use tools::message::message_command;
-use tools::pack::pack;
-use tools::show::show;
-use usage::arguments::arg_count;
-use usage::arguments::arg_is;
-use usage::arguments::bad_usage;
-use usage::outcome::Outcome;
+use cli_arguments::arguments::arg_count;
+use cli_arguments::arguments::arg_is;
+use cli_arguments::arguments::bad_usage;
+use cli_arguments::outcome::Outcome;
+use cli_card::card_file::Loaded;
+use cli_card::card_file::load_card;
+use cli_card::card_shown::show_card;
+use cli_io::files::close_file;
+use cli_io::files::open_file;
+use cli_io::files::overwrite_file;
+use cli_run::turns::Way;
+use cli_tools::message::message_command;
+use cli_tools::pack::pack;
+use cli_tools::show::show;
 
 fn show_command() -> Outcome {
     if arg_count() != 3 {

@@ -1,8 +1,8 @@
 // The page of help.
-use desk::files::after_printing;
-use desk::files::last_error;
-use usage::outcome::Outcome;
-use usage::outcome::unless_error;
+use cli_arguments::outcome::Outcome;
+use cli_arguments::outcome::unless_error;
+use cli_io::files::after_printing;
+use cli_io::files::last_error;
 
 // A line of it; 0, or the error.
 fn say(text: &[u8]) -> i32 {

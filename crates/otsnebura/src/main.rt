@@ -4,8 +4,8 @@ mod help; // the page of help
 mod run; // `otsnebura run`
 mod commands; // the commands by their names
 
+use cli_arguments::outcome::report;
 use commands::command;
-use usage::outcome::report;
 
 fn main() {
     report(command());

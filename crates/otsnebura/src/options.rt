@@ -1,6 +1,6 @@
 // What stands after `run`: two files, --quiet and --answers FILE, in any order.
-use usage::arguments::arg_count;
-use usage::arguments::arg_is;
+use cli_arguments::arguments::arg_count;
+use cli_arguments::arguments::arg_is;
 
 // Which argument is which, by its number, 0 where it isn't there.
 pub struct Options {

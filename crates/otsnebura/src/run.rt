@@ -1,30 +1,30 @@
 // `otsnebura run CARD TRACE`: the card is set up, the trace is fed, and the end is printed.
 use crate::options::Options;
 use bits::at_most;
-use cards::refusal::complain_refusal;
-use desk::files::after_printing;
-use desk::files::complain_read;
-use desk::files::complain_write;
-use desk::files::name_file;
-use desk::printing::Waiting;
-use desk::printing::flush;
-use desk::printing::flush_out;
-use desk::trace_file::PIECE;
-use desk::trace_file::complain_fault;
+use cli_arguments::outcome::Outcome;
+use cli_arguments::outcome::unless_error;
+use cli_card::refusal::complain_refusal;
+use cli_io::files::after_printing;
+use cli_io::files::complain_read;
+use cli_io::files::complain_write;
+use cli_io::files::name_file;
+use cli_io::printing::Waiting;
+use cli_io::printing::flush;
+use cli_io::printing::flush_out;
+use cli_io::trace_file::PIECE;
+use cli_io::trace_file::complain_fault;
+use cli_run::ending::print_ending;
+use cli_run::session::Session;
+use cli_run::session::begin;
+use cli_run::session::fault_of;
+use cli_run::session::fault_offset;
+use cli_run::session::words_of;
+use cli_run::turns::Turn;
+use cli_run::turns::Way;
+use cli_run::turns::end_progress;
+use cli_run::turns::first_turn;
+use cli_run::turns::run_all;
 use readiness::Setup;
-use runs::ending::print_ending;
-use runs::session::Session;
-use runs::session::begin;
-use runs::session::fault_of;
-use runs::session::fault_offset;
-use runs::session::words_of;
-use runs::turns::Turn;
-use runs::turns::Way;
-use runs::turns::end_progress;
-use runs::turns::first_turn;
-use runs::turns::run_all;
-use usage::outcome::Outcome;
-use usage::outcome::unless_error;
 
 // The answers that wait are written: the error of that, or of an earlier write, 0 where there is none.
 fn close_answers(o: Options, way: Way, answers: &[u8], kept: Waiting) -> i32 {

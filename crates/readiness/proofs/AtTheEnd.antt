@@ -1,5 +1,4 @@
 -- While every slot counts for DRS, telling the DRS at the end of each moment is telling it once, when all that is due has happened.
--- Assumes nothing.
 use Prim.Native.Nat.{ℕ, zero, suc}
 use native.Mathlib.Omega.{arith}
 use mathlib.Core.Bool.{Bool, false, _&&_, cond, and-false}

@@ -1,5 +1,4 @@
 -- Moments before which no slot becomes Ready: before one of them nothing is due, and what keeps them.
--- Assumes nothing.
 use Prim.Native.Nat.{ℕ, zero, suc, _+_, _≤_, _<_}
 use native.Mathlib.Numerals.{add-one}
 use native.Mathlib.Omega.{arith}
@@ -22,7 +21,7 @@ use Rattle.readiness.specs.declared.Dev.{Dev}
 use Rattle.readiness.specs.Status.{ready, eachFrom, stoppedByReset}
 use Rattle.readiness.specs.Events.{Event, dueEvent, insertAll, dueFrom, due}
 use Rattle.readiness.specs.Settle.{Scene, happenAll, drsDue, tells, settles}
-use Rattle.readiness.specs.Earliest.{never, readyTime, earliestReady, PhaseFrom, ReadyFrom}
+use Rattle.readiness.specs.inner.Earliest.{never, readyTime, earliestReady, PhaseFrom, ReadyFrom}
 use Rattle.readiness.proofs.Order.{phaseBy, readyBy}
 use Rattle.readiness.proofs.Scenes.{settled-statuses}
 use Rattle.readiness.proofs.Laws.{settle-rest}

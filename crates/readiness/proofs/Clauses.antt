@@ -1,5 +1,4 @@
 -- Clauses of 01, "Readiness", as laws of the definitions: what starts a slot and until when, how a DRS is signalled, what resets leave of the port.
--- Assumes nothing.
 use Prim.Native.Nat.{ℕ, suc, _+_, _≤_, _<_, min}
 use native.Mathlib.Nat.{add-zero, zero-add}
 use native.Mathlib.Omega.{arith}

@@ -1,5 +1,4 @@
 -- Worked examples of 01, "Readiness", which antt computes.
--- Assumes nothing.
 use mathlib.Core.Path.{_≡_, refl}
 use mathlib.Core.Bool.{Bool, true, false}
 use mathlib.Core.List.{List, [], _∷_}

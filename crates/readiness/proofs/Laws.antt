@@ -1,5 +1,4 @@
 -- The order of events, what settling sends, where it rests, one slot alone, and slots that aren't there.
--- Assumes nothing.
 use Prim.Native.Nat.{ℕ, zero, suc, _+_, _-_, _*_, _≤_, _<_, min}
 use native.Mathlib.Nat.{zero-add}
 use native.Mathlib.Omega.{arith}

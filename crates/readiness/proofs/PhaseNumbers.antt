@@ -1,5 +1,4 @@
 -- Slot statuses as numbers, three to a slot: how many there are, where each stands, and what a change of its numbers does.
--- Assumes nothing.
 use Prim.Native.Nat.{ℕ, zero, suc, _+_, _*_, _/_, _≤_, _<_}
 use native.Mathlib.Omega.{arith}
 use mathlib.Core.Path.{_≡_, refl, sym, ap, _∙_}
@@ -12,7 +11,7 @@ use Rattle.readiness.specs.declared.Cause.the-variants.{LinkUp, Flr, D3h
 use Rattle.readiness.specs.declared.Phase.the-variants.{Down, Pending, Ready}
 use Rattle.readiness.specs.declared.Status.{Status}
 use Rattle.readiness.specs.Status.{down, pending, ready}
-use Rattle.readiness.specs.Phases.{statusOf, statusesIn}
+use Rattle.readiness.specs.inner.Phases.{statusOf, statusesIn}
 
 -- a third of the numbers, and what is left of them
 statuses-thrice : (l : List ℕ) → (3 * length (statusesIn l) ≤ length l) × (length l < 3 * length (statusesIn l) + 3)

@@ -1,5 +1,4 @@
 -- What happens to statuses, port and tally as events happen and a DRS is told, part by part.
--- Assumes nothing.
 use Prim.Native.Nat.{ℕ, _≤_, _<_}
 use native.Mathlib.Omega.{arith}
 use mathlib.Core.Bool.{Bool, true, false, not, cond, or-assoc}

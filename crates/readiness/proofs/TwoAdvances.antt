@@ -1,5 +1,4 @@
 -- Two advances are one, and an advance is as many advances by one nanosecond.
--- Assumes nothing.
 use Prim.Native.Nat.{ℕ, zero, suc, _+_, _≤_, min}
 use native.Mathlib.Omega.{arith}
 use mathlib.Core.Bool.{Bool, true, false, _||_, cond}

@@ -1,5 +1,4 @@
 -- Blank values: every number 0, every bit off, every slot Down.
--- Assumes nothing.
 use mathlib.Core.Bool.{false}
 use lib.ListN.{replicate}
 use Rattle.frs_queue.specs.declared.Queue.{Queue}

@@ -1,5 +1,4 @@
 -- The device with one field anew. No other rule lists the device's fields.
--- Assumes nothing.
 use mathlib.Core.Bool.{Bool}
 use Rattle.times.specs.declared.Nanos.{Nanos}
 use Rattle.frs_queue.specs.declared.Queue.{Queue}

@@ -4,5 +4,4 @@ pub mod Status
 pub mod Root
 pub mod Events
 pub mod Settle
-pub mod Earliest
-pub mod Phases
+pub mod inner

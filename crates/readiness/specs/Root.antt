@@ -1,5 +1,4 @@
 -- Messages at the root port (01, "Readiness" and "Queue").
--- Assumes nothing.
 use Prim.Native.Nat.{ℕ}
 use mathlib.Core.Bool.{Bool, true, false, not, _&&_, _||_, cond}
 use mathlib.Core.List.{List, [], _∷_}

@@ -1,5 +1,4 @@
 -- What happens as slots become Ready, and as the clock advances (01, "Readiness").
--- Assumes nothing.
 use Prim.Native.Nat.{ℕ}
 use mathlib.Core.Bool.{Bool, true, not, _&&_, cond}
 use mathlib.Core.List.{List, [], _∷_, _++_}

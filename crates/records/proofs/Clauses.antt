@@ -1,5 +1,4 @@
 -- Clauses of 01 as laws of the definitions: which write starts what, the status bits, and what link up, link down and cold reset leave, before slots become Ready.
--- Assumes nothing.
 use Prim.Native.Nat.{ℕ, _+_, _*_, _/_, _%_, _≤_, _<_, min}
 use native.Mathlib.Omega.{arith}
 use mathlib.Core.Bool.{Bool, true, false, not, _&&_, cond, true≢false}

@@ -1,5 +1,4 @@
 -- Every record keeps a sound state sound, and the lengths of all that is lent.
--- Assumes nothing.
 use Prim.Native.Nat.{ℕ, zero, suc, _+_, _/_, _%_, _≤_, _<_}
 use native.Mathlib.Nat.{zero-add}
 use native.Mathlib.Omega.{arith}

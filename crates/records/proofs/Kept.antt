@@ -1,5 +1,4 @@
 -- What is asked of set-up and record so that a record keeps a sound state sound, and what is kept.
--- Assumes nothing.
 use Prim.Native.Nat.{ℕ, _<_}
 use mathlib.Core.Path.{_≡_, refl, _∙_}
 use mathlib.Core.Bool.{true}

@@ -1,5 +1,4 @@
 -- What a record does, kind by kind: what has to be shown of each so that something holds of every record that is done.
--- Assumes nothing.
 use Prim.Native.Nat.{ℕ, _/_, _%_}
 use mathlib.Core.Bool.{Bool, true, false, not, _||_}
 use mathlib.Core.List.{List, [], _∷_}

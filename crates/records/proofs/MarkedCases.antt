@@ -1,5 +1,4 @@
 -- MARKED CASES 3 and 10 (01), on the device's bytes: the plain bench's answers from the state that their set-up leaves.
--- Assumes nothing.
 use Prim.Native.Nat.{ℕ}
 use mathlib.Core.Path.{_≡_, refl}
 use mathlib.Core.Bool.{true, false}

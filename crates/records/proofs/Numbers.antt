@@ -1,5 +1,4 @@
 -- Routes and statuses: each number under its condition and none of the earlier ones, and the data that goes with it.
--- Assumes nothing.
 use Prim.Native.Nat.{ℕ, _/_, _%_, _≤_, _<_}
 use native.Mathlib.Omega.{arith}
 use mathlib.Core.Bool.{Bool, true, false, not, _&&_, _||_, cond, false≢true, or-true}

@@ -1,5 +1,4 @@
 -- The bytes of an answer, by the rules: the counts are those of the FRS that arrived, and a status other than 0 changes nothing.
--- Assumes nothing.
 use Prim.Native.Nat.{ℕ, _+_, _-_, _≤_, min}
 use mathlib.Core.Path.{_≡_}
 use mathlib.Core.Logic.{_≢_}

@@ -1,5 +1,4 @@
 -- A record by the part of the state that it touches: on a sound state, running it is running it on that part alone, put back.
--- Assumes nothing.
 use Prim.Native.Nat.{ℕ, _/_, _%_, _<_}
 use native.Mathlib.Omega.{arith}
 use mathlib.Core.Path.{_≡_, refl, ap, sym, _∙_}
@@ -43,7 +42,7 @@ use Rattle.records.specs.Route.{pendingRoute, phaseRoute, routeOf, route
 use Rattle.records.specs.Requests.{wordAt, readDone, writeDone, written, writeSeat, afterFlr, afterD3hot, readEffect, writeEffect, hardwareEffect}
 use Rattle.records.specs.PortRecords.{Front, messageDone, messageEffect, clearedDev, controlEffect}
 use Rattle.records.specs.Run.{atSlot, atPort, frontOf, effect, run}
-use Rattle.records.specs.Parts.{partAt, partOf, slotEffect, slotAnswered, slotRun, portEffect, portAnswered, portRun, cardEffect, cardRun, slotPut, portPut}
+use Rattle.records.specs.inner.Parts.{partAt, partOf, slotEffect, slotAnswered, slotRun, portEffect, portAnswered, portRun, cardEffect, cardRun, slotPut, portPut}
 use Rattle.records.specs.Sound.{Sound, Fitting}
 use Rattle.records.proofs.Resting.{Resting, sound-rests}
 

@@ -1,5 +1,4 @@
 -- A sound queue stays sound: through arrivals, a DRS, a removal, emptying, and settling.
--- Assumes nothing.
 use Prim.Native.Nat.{ℕ, zero, suc, _+_, _≤_, _<_}
 use native.Mathlib.Omega.{arith}
 use mathlib.Core.Path.{_≡_, refl, ap, sym, subst, _∙_}

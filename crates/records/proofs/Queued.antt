@@ -1,6 +1,5 @@
 -- The FRS messages that arrive in a record: how many are queued and dropped, what the queue's list is after it, and which interrupts
 -- are raised.
--- Assumes nothing.
 use Prim.Native.Nat.{ℕ, zero, suc, _+_, _-_, _*_, _≤_, min}
 use native.Mathlib.Omega.{arith}
 use mathlib.Core.Bool.{Bool, true, false, not, _&&_, _||_, cond, or-false, or-true, and-false, false≢true, true≢false, not-and-self}

@@ -1,5 +1,4 @@
 -- A sound state is at rest: nothing is due, and no DRS is to be told.
--- Assumes nothing.
 use Prim.Native.Nat.{ℕ, _<_}
 use native.Mathlib.Omega.{arith}
 use mathlib.Core.Path.{_≡_, refl, ap}

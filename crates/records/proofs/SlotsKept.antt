@@ -1,5 +1,4 @@
 -- Each slot's status where slots are started anew, become Ready, or are replaced.
--- Assumes nothing.
 use Prim.Native.Nat.{ℕ, zero, suc, _+_, _≤_}
 use native.Mathlib.Omega.{arith}
 use mathlib.Core.Path.{_≡_, refl, ap}

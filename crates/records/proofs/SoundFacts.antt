@@ -1,5 +1,4 @@
 -- Soundness: the test for refusal 5 and what 5 lists, clause by clause; each gives the other.
--- Assumes nothing.
 use Prim.Native.Nat.{ℕ, zero, suc, _+_, _*_, _≤_, _<_}
 use native.Mathlib.Omega.{arith}
 use mathlib.Core.Path.{_≡_, refl, ap, sym, subst, _∙_}

@@ -1,5 +1,4 @@
 -- Link up, and writes that start an FLR or the way from D3hot: the slot's status after the record; and how long an FLR is answered 18.
--- Assumes nothing.
 use Prim.Native.Nat.{ℕ, _+_, _≤_, _<_, min}
 use native.Mathlib.Omega.{arith}
 use mathlib.Core.Bool.{Bool, true, false, cond}

@@ -1,5 +1,4 @@
 -- Unsound states: each thing that 5 lists (01, "Numbers given for no"), beside a neighbour that is sound.
--- Assumes nothing.
 use Prim.Native.Nat.{ℕ}
 use mathlib.Core.Path.{_≡_, refl}
 use mathlib.Core.Bool.{Bool, true, false}

@@ -1,5 +1,4 @@
 -- The FRS messages that arrive in one record, by the rules.
--- Assumes nothing.
 use Prim.Native.Nat.{ℕ}
 use mathlib.Core.List.{List, [], _∷_, _++_}
 use Rattle.messages.specs.declared.Message.{Message}

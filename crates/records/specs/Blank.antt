@@ -1,5 +1,4 @@
 -- The blank port state (01, "Set-up, and memory lent").
--- Assumes nothing.
 use mathlib.Core.Bool.{false}
 use lib.ListN.{replicate}
 use Rattle.readiness.specs.Blank.{blankDev}

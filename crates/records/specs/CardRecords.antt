@@ -1,5 +1,4 @@
 -- Records that touch every slot: advance clock, link up, link down, cold reset (01, "Trace records", "Readiness").
--- Assumes nothing.
 use Prim.Native.Nat.{ℕ, _+_}
 use mathlib.Core.Bool.{cond}
 use mathlib.Core.List.{List}

@@ -1,5 +1,4 @@
 -- Trace records (01, "Trace records"): one byte of kind, then a body; numbers low byte first.
--- Assumes nothing.
 use Prim.Native.Nat.{ℕ, _+_, _*_}
 use mathlib.Core.List.{List}
 use mathlib.Core.Bool.{cond}

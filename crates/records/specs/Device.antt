@@ -1,5 +1,4 @@
 -- The device on bytes, for the plain bench (01, "Trace").
--- Assumes nothing.
 use Prim.Native.Nat.{ℕ}
 use mathlib.Core.Path.{_≡_, refl}
 use mathlib.Core.List.{List}

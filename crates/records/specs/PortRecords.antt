@@ -1,5 +1,4 @@
 -- Records that touch the root port alone: message, queue register, remove oldest, status bits, control (01, "Trace records").
--- Assumes nothing.
 use Prim.Native.Nat.{ℕ, _+_, _*_, _/_, _%_}
 use mathlib.Core.Bool.{not, _&&_, _||_, cond}
 use mathlib.Core.List.{List, [], _∷_}

@@ -1,5 +1,4 @@
 -- Records that touch one slot: configuration read, configuration write, hardware set (01, "Register attributes", "Readiness").
--- Assumes nothing.
 use Prim.Native.Nat.{ℕ}
 use mathlib.Core.Bool.{true, false, not, cond}
 use mathlib.Core.List.{List}

@@ -1,5 +1,4 @@
 -- Where a configuration request goes (01, "Numbers given for no", statuses 16 to 18, 20, 21 and 24).
--- Assumes nothing.
 use Prim.Native.Nat.{ℕ}
 use mathlib.Core.Bool.{Bool, true, false, not, _&&_, _||_, cond}
 use lib.Dec.{eqb, ltb}

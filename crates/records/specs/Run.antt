@@ -1,5 +1,4 @@
 -- A record runs (01, "Trace records").
--- Assumes nothing.
 use Prim.Native.Nat.{ℕ}
 use mathlib.Core.List.{List}
 use Rattle.frs_queue.specs.Queue.{noTally}

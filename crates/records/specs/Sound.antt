@@ -1,5 +1,4 @@
 -- Soundness of port and statuses (01, "Numbers given for no", refusal 5), but for the carried bytes.
--- Assumes nothing.
 use Prim.Native.Nat.{ℕ, _+_, _*_, _≤_, _<_}
 use mathlib.Core.Logic.{_≢_}
 use mathlib.Core.Path.{_≡_}

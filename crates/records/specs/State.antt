@@ -1,5 +1,4 @@
 -- The device's state (01, "One trace"), and the parts of it that a record sees.
--- Assumes nothing.
 use Prim.Native.Nat.{ℕ, _+_, _*_}
 use mathlib.Core.List.{List}
 use lib.ListN.{getD, set}

@@ -1,5 +1,4 @@
 -- What follows of the attributes and of the operations on one word, for every kind, word and value.
--- Assumes nothing.
 use mathlib.Core.Path.{_≡_, refl, sym, ap, _∙_, subst}
 use mathlib.Core.Bool.{Bool, true, false, not, _&&_, _||_, and-true, and-false}
 use mathlib.Core.Logic.{_⊎_, ⊎-elim}

@@ -1,5 +1,4 @@
 -- Each definition by kind and word as the code computes it, and each operation's bit as the code computes it.
--- Assumes nothing.
 use mathlib.Core.Path.{_≡_, refl, ap, _∙_}
 use mathlib.Core.Bool.{Bool, true, false, not, _&&_, _||_, cond}
 use mathlib.Core.List.{List, [], _∷_}

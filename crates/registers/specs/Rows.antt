@@ -1,5 +1,4 @@
 -- The attributes of the words of configuration space, by a slot's kind and a word's number.
--- Assumes nothing.
 use Prim.Native.Nat.{ℕ, zero, suc, _*_, _/_}
 use mathlib.Core.Bool.{Bool, not, _&&_, _||_, cond}
 use mathlib.Core.List.{List, [], _∷_}

@@ -1,5 +1,4 @@
 -- What the code of set-up leaves, where it is not refused.
--- Assumes nothing.
 use Prim.Native.Nat.{ℕ, _≤_}
 use mathlib.Core.Path.{_≡_, ap₂}
 use mathlib.Core.List.{List}

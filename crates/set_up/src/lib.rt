@@ -5,7 +5,7 @@ mod lending; // the queue cells
 ghost use mathlib.Core.Path.{_≡_};
 ghost use Rattle.demand3.specs.Held.{held, lentOf};
 ghost use Rattle.demand3.specs.SettingUp.{setsUp};
-ghost use Rattle.set_up.specs.Prepared.{prepared};
+ghost use Rattle.set_up.specs.inner.Prepared.{prepared};
 use lending::clear_cells;
 use readiness::Setup;
 use readiness::Status;

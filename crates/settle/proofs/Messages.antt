@@ -1,5 +1,4 @@
 -- Where no message comes, the root port stays as it is; the message that a slot sends.
--- Assumes nothing.
 use Prim.Native.Nat.{ℕ, _≤_, _<_}
 use native.Mathlib.Omega.{arith}
 use mathlib.Core.Path.{_≡_, refl, sym, ap, _∙_}

@@ -1,5 +1,4 @@
 -- One slot that is due or not, and the first of all that are due.
--- Assumes nothing.
 use Prim.Native.Nat.{ℕ, _≤_, _<_}
 use native.Mathlib.Omega.{arith}
 use mathlib.Core.Path.{_≡_, refl, sym, ap, subst, _∙_}
@@ -22,7 +21,7 @@ use Rattle.settle.specs.declared.Due.the-variants.{Nothing, At}
 use Rattle.readiness.specs.Status.{ready}
 use Rattle.readiness.specs.Root.{frsArrive}
 use Rattle.readiness.specs.Events.{Event, reached, dueEvent, due, frsOfSlot}
-use Rattle.settle.specs.Next.{firstDue}
+use Rattle.settle.specs.inner.Next.{firstDue}
 use Rattle.readiness.proofs.Order.{each-mem}
 use Rattle.readiness.proofs.Laws.{InOrder, due-order, due-unique}
 use Rattle.readiness.specs.Settle.{SlotScene, slotHappens, slotSettles}

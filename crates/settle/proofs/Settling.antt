@@ -1,6 +1,5 @@
 -- Settling, one event after the other, in the order that is prepared once: the next event stands in the last place that is left; once it has happened,
 -- what is left to happen is the rest; and then the DRS is told where no slot waits.
--- Assumes nothing.
 use Prim.Native.Nat.{ℕ, suc, _-_, _≤_, _<_}
 use native.Mathlib.Omega.{arith}
 use mathlib.Core.Path.{_≡_, refl, sym, ap, ap₂, _∙_, subst}
@@ -21,8 +20,8 @@ use Rattle.readiness.specs.Settle.{Scene, happens, drsDue, tells, settles}
 use Rattle.readiness.proofs.Order.{phaseBy, readyBy, due-length}
 use Rattle.readiness.proofs.Scenes.{tells-statuses, settled-statuses}
 use Rattle.readiness.proofs.AtTheEnd.{allHappen, settlesAtEnd, settle-at-end}
-use Rattle.settle.specs.Next.{dueBy, waits, someWaits}
-use Rattle.settle.specs.Prepared.{downFrom, numbers, slotOf}
+use Rattle.settle.specs.inner.Next.{dueBy, waits, someWaits}
+use Rattle.settle.specs.inner.Prepared.{downFrom, numbers, slotOf}
 use Rattle.settle.proofs.Scan.{First, first-due}
 use Rattle.settle.proofs.Insertion.{down-length, numbers-length}
 

@@ -4,7 +4,7 @@ ghost use mathlib.Core.Path.{_≡_};
 ghost use Prim.Native.Nat.{_<_};
 ghost use lib.ListN.{length, getD, set};
 ghost use Rattle.readiness.specs.Status.{ready};
-ghost use Rattle.readiness.specs.Phases.{statusOf, statusesIn};
+ghost use Rattle.readiness.specs.inner.Phases.{statusOf, statusesIn};
 use readiness::Cause;
 use readiness::Phase;
 use readiness::Status;

@@ -1,5 +1,4 @@
 -- Moments of the bench's clock, in nanoseconds.
--- Assumes nothing.
 use Prim.Native.Nat.{ℕ, _+_}
 use mathlib.Core.Bool.{cond}
 use lib.Dec.{leb}

@@ -1,5 +1,4 @@
 -- Laws of bytes with zeros after them, of carried bytes with an input after them, and of lists of bytes.
--- Assumes nothing.
 use Prim.Native.Nat.{ℕ, zero, suc, _+_, _-_, _≤_, _<_}
 use mathlib.Core.Path.{_≡_, ap, sym, _∙_}
 use mathlib.Core.List.{List, [], _∷_, _++_}

@@ -1,5 +1,4 @@
 -- Laws of tests.
--- Assumes nothing.
 use mathlib.Core.Path.{_≡_, refl, sym}
 use mathlib.Core.Bool.{Bool, true, false, _&&_, _||_, true≢false, false≢true}
 use Rattle.trace.specs.Format.{if_then_else_}

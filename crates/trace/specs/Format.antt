@@ -1,5 +1,4 @@
 -- The format of a trace: records one after the other, each a byte of kind and then a body.
--- Assumes nothing.
 use Prim.Native.Nat.{ℕ, _-_, _<_}
 use mathlib.Core.Bool.{Bool, true, false, _&&_}
 use mathlib.Core.List.{List, [], _∷_, _++_}

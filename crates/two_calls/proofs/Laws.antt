@@ -1,5 +1,4 @@
 -- Two calls of feed, each known by its contract, as one list of calls, and as the plain bench.
--- Assumes nothing.
 use Prim.Native.Nat.{ℕ}
 use mathlib.Core.Path.{_≡_, ap, _∙_}
 use mathlib.Core.List.{List, [], _∷_}

@@ -1,6 +1,5 @@
 -- `bench::set_up` meets its contract: a walk of its MIR, by hand. The statuses are lent to `load` as a `&`; the borrow of the port is opened and the port is copied out; `set_up::set_up` is called, to which the other slices go for good; `port_made`, `statuses_made` and `number_made` take what it gave apart, so that no step here looks into so large a struct; the new port is stored, the statuses are lent to `store`, and the port's borrow is closed.
 -- All that the proof knows of the callees is that each meets its contract.
--- Assumes nothing.
 use mathlib.Core.Path.{_≡_, refl, ap, sym, _∙_}
 use Prim.Native.Nat.{ℕ}
 use mathlib.Core.List.{[], _∷_, List}
@@ -49,14 +48,14 @@ use Rattle.readiness.proofs.Status as T
 use Rattle.readiness.proofs.Status.Laws as T′
 use Rattle.readiness.proofs.Setup as S
 use Rattle.readiness.proofs.Setup.Laws as S′
-use Rattle.walks.proofs.Walks.{before, before-plain, after}
-use Rattle.walks.proofs.Lent.{at-list, lend-slice, back-slice, share-slice, unshare-slice}
-use Rattle.walks.proofs.Frees.{free-next, free-last}
+use Rattle.walk_rules.proofs.Walks.{before, before-plain, after}
+use Rattle.walk_rules.proofs.Lent.{at-list, lend-slice, back-slice, share-slice, unshare-slice}
+use Rattle.walk_rules.proofs.Frees.{free-next, free-last}
 use Rattle.records.specs.declared.Port.{Port}
 use Rattle.set_up.specs.declared.SetUp.{SetUp}
 use Rattle.demand3.specs.Held.{held, lentOf}
 use Rattle.demand3.specs.SettingUp.{setsUp}
-use Rattle.set_up.specs.Prepared.{prepared}
+use Rattle.set_up.specs.inner.Prepared.{prepared}
 use Rattle.records.proofs.Port as P
 use Rattle.records.proofs.Port.Laws as P′
 use Rattle.set_up.proofs.SetUp as R
@@ -65,7 +64,7 @@ use Rattle.set_up.proofs.set_up as core
 use Rattle.set_up.proofs.set_up.Symbol as core-def
 use Rattle.set_up.proofs.set_up.Symbol.{name as #set-up·set-up}
 use Rattle.set_up.proofs.set_up.Met as core-thm
-use Rattle.statuses.specs.Statuses.{storedOver}
+use Rattle.lent_statuses.specs.inner.Statuses.{storedOver}
 use Rattle.bench.specs.Entries.{leftBySetUp}
 use Rattle.bench.proofs.Values.{setup-val, port-vals, setup-vals, port-tells, setup-tells}
 use Rattle.bench.proofs.Padding.{set-up-as-lent}
@@ -81,14 +80,14 @@ use Rattle.bench.proofs.number_made as number-of
 use Rattle.bench.proofs.number_made.Symbol as number-of-def
 use Rattle.bench.proofs.number_made.Symbol.{name as #bench·number-made}
 use Rattle.bench.proofs.number_made.Met as number-of-thm
-use Rattle.statuses.proofs.load as load
-use Rattle.statuses.proofs.load.Symbol as load-def
-use Rattle.statuses.proofs.load.Symbol.{name as #statuses·load}
-use Rattle.statuses.proofs.load.Met as load-thm
-use Rattle.statuses.proofs.store as store′
-use Rattle.statuses.proofs.store.Symbol as store-def
-use Rattle.statuses.proofs.store.Symbol.{name as #statuses·store}
-use Rattle.statuses.proofs.store.Met as store-thm
+use Rattle.lent_statuses.proofs.load as load
+use Rattle.lent_statuses.proofs.load.Symbol as load-def
+use Rattle.lent_statuses.proofs.load.Symbol.{name as #statuses·load}
+use Rattle.lent_statuses.proofs.load.Met as load-thm
+use Rattle.lent_statuses.proofs.store as store′
+use Rattle.lent_statuses.proofs.store.Symbol as store-def
+use Rattle.lent_statuses.proofs.store.Symbol.{name as #statuses·store}
+use Rattle.lent_statuses.proofs.store.Met as store-thm
 use Rattle.bench.proofs.set_up.Key.{name as #bench·set-up}
 use Rattle.bench.proofs.set_up as f
 use Rattle.bench.proofs.set_up.Statement as stated

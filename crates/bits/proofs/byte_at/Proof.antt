@@ -1,4 +1,4 @@
--- `bits::byte_at` meets its contract. Assumes nothing.
+-- `bits::byte_at` meets its contract.
 use mathlib.Core.Path.{sym}
 use lib.ListN.{List·getD-eq-default}
 use denote.Ref.{now}

@@ -1,5 +1,4 @@
 -- `cases::run_cases` is safe and ends: the measure is the number of turns that are left, and nothing has to hold from turn to turn.
--- Assumes nothing.
 use borrow.Author.Needs.{needs}
 use Rattle.cases.proofs.run_cases.Statement.{statement}
 use Rattle.cases.proofs.run_cases.Tie as tie

@@ -1,5 +1,4 @@
 -- `config_words::cold_reset` meets its contract. The loop's invariant: the words up to n are reset, and the rest are as they were.
--- Assumes nothing.
 use mathlib.Core.Path.{_≡_, refl, ap, _∙_}
 use mathlib.Core.List.{List}
 use Prim.Native.Nat.{ℕ, _≤_, _<_, _-_}
@@ -7,7 +6,7 @@ use native.Mathlib.Omega.{arith}
 use lib.ListN.{length, getD, set, length-set}
 use borrow.Author.Needs.{needs}
 use Rattle.config_space.specs.Functions.{resetWhere, coldWord, coldReset}
-use Rattle.config_words.specs.Resetting.{between}
+use Rattle.config_words.specs.inner.Resetting.{between}
 use Rattle.config_words.proofs.Spans.{none-yet, one-more, all-done, every-word}
 use Rattle.config_words.proofs.cold_reset.Statement.{statement}
 use Rattle.config_words.proofs.cold_reset.Tie as tie

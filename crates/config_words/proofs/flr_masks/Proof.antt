@@ -1,5 +1,4 @@
 -- `config_words::flr_masks` meets its contract.
--- Assumes nothing.
 use borrow.Author.Needs.{needs}
 use Rattle.config_words.proofs.flr_masks.Statement.{statement}
 use Rattle.config_words.proofs.flr_masks.Tie as tie

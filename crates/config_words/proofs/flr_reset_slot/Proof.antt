@@ -1,9 +1,8 @@
 -- `config_words::flr_reset_slot` meets its contract.
--- Assumes nothing.
 use mathlib.Core.Path.{ap, _∙_}
 use Rattle.config_words.specs.declared.ResetMasks.{ResetMasks}
 use Rattle.config_space.specs.Functions.{inSlot, resetWhere, flrResetSlot}
-use Rattle.config_words.specs.Resetting.{byMask}
+use Rattle.config_words.specs.inner.Resetting.{byMask}
 use Rattle.config_words.proofs.Changing.{flr-by-masks}
 use borrow.Author.Needs.{needs}
 use Rattle.config_words.proofs.flr_reset_slot.Statement.{statement}

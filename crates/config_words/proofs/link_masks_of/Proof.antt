@@ -1,5 +1,4 @@
 -- `config_words::link_masks_of` meets its contract.
--- Assumes nothing.
 use borrow.Author.Needs.{needs}
 use Rattle.config_words.proofs.link_masks_of.Statement.{statement}
 use Rattle.config_words.proofs.link_masks_of.Tie as tie

@@ -1,9 +1,8 @@
 -- `config_words::link_reset_next` meets its contract.
--- Assumes nothing.
 use mathlib.Core.Path.{ap, _∙_}
 use Rattle.config_space.specs.Functions.{inSlot, resetWhere, linkResetSlot}
 use Rattle.config_words.specs.declared.LinkMasks.{LinkMasks}
-use Rattle.config_words.specs.Resetting.{byMask}
+use Rattle.config_words.specs.inner.Resetting.{byMask}
 use Rattle.config_words.proofs.Changing.{link-by-masks}
 use borrow.Author.Needs.{needs}
 use Rattle.config_words.proofs.link_reset_next.Statement.{statement}

@@ -1,10 +1,9 @@
 -- `config_words::mask_in` meets its contract.
--- Assumes nothing.
 use mathlib.Core.Path.{_≡_, refl, sym, ap}
 use Prim.Native.Nat.{ℕ}
 use borrow.Author.Tests.{ne-eqb}
 use Rattle.config_words.specs.declared.ResetMasks.{ResetMasks}
-use Rattle.config_words.specs.Resetting.{maskIn}
+use Rattle.config_words.specs.inner.Resetting.{maskIn}
 use Rattle.config_words.proofs.mask_in.Statement.{statement}
 use Rattle.config_words.proofs.mask_in.Tie as tie
 

@@ -1,9 +1,8 @@
 -- `config_words::next_masks` meets its contract: the last masks are those of their kind, so of a kind that is the same.
--- Assumes nothing.
 use mathlib.Core.Path.{sym, ap, _∙_}
 use borrow.Author.Needs.{needs}
 use Rattle.registers.proofs.Rules.{same-kind}
-use Rattle.config_words.specs.Resetting.{linkMasksOf}
+use Rattle.config_words.specs.inner.Resetting.{linkMasksOf}
 use Rattle.config_words.proofs.next_masks.Statement.{statement}
 use Rattle.config_words.proofs.next_masks.Tie as tie
 

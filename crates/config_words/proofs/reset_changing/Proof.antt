@@ -1,11 +1,10 @@
 -- `config_words::reset_changing` meets its contract.
--- Assumes nothing.
 use mathlib.Core.Path.{ap, _∙_}
 use mathlib.Core.List.{List}
 use Prim.Native.Nat.{ℕ, _+_, _*_}
 use native.Mathlib.Omega.{arith}
 use Rattle.config_space.specs.Functions.{resetWhere}
-use Rattle.config_words.specs.Resetting.{byMask, changingBetween}
+use Rattle.config_words.specs.inner.Resetting.{byMask, changingBetween}
 use Rattle.config_words.proofs.Changing.{two-changing}
 use borrow.Author.Needs.{needs}
 use Rattle.config_words.proofs.reset_changing.Statement.{statement}

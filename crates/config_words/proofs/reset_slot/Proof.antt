@@ -1,10 +1,9 @@
 -- `config_words::reset_slot` meets its contract.
--- Assumes nothing.
 use mathlib.Core.Path.{ap₂, _∙_}
 use Prim.Native.Nat.{ℕ, _+_, _*_}
 use native.Mathlib.Omega.{arith}
 use Rattle.config_space.specs.Functions.{resetWhere}
-use Rattle.config_words.specs.Resetting.{between, byMask}
+use Rattle.config_words.specs.inner.Resetting.{between, byMask}
 use Rattle.config_words.proofs.Spans.{slot-words, whole-slot}
 use Rattle.config_words.proofs.Changing.{by-changing}
 use borrow.Author.Needs.{needs}

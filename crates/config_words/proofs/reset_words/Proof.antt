@@ -1,6 +1,5 @@
 -- `config_words::reset_words` meets its contract. The loop's invariant: the words from `from` up to n are reset, and the rest are as
 -- they were.
--- Assumes nothing.
 use mathlib.Core.Path.{_≡_, refl, ap, ap₂, _∙_}
 use mathlib.Core.List.{List}
 use Prim.Native.Nat.{ℕ, _≤_, _<_, _-_, _/_, _%_, max}
@@ -9,7 +8,7 @@ use lib.ListN.{length, getD, set, length-set}
 use borrow.Author.Needs.{needs}
 use Rattle.registers.specs.Words.{withDefaults}
 use Rattle.config_space.specs.Functions.{resetWhere}
-use Rattle.config_words.specs.Resetting.{between, byMask}
+use Rattle.config_words.specs.inner.Resetting.{between, byMask}
 use Rattle.config_words.proofs.Spans.{none-yet, not-yet, one-more, all-done}
 use Rattle.config_words.proofs.reset_words.Statement.{statement}
 use Rattle.config_words.proofs.reset_words.Tie as tie

@@ -1,5 +1,4 @@
 -- `feed::carry_on` meets its contract.
--- Assumes nothing.
 use borrow.Author.Needs.{needs}
 use mathlib.Core.Path.{_≡_, ap}
 use mathlib.Core.List.{_++_}
@@ -8,7 +7,7 @@ use lib.ListN.{length}
 use denote.Ref.{now}
 use Rattle.trace.proofs.Lists.{length-joined}
 use Rattle.trace.proofs.Loop.{end-few}
-use Rattle.gather.specs.declared.Ending.{Ending}
+use Rattle.decode.specs.declared.Ending.{Ending}
 use Rattle.demand3.specs.Held.{carriedOf}
 use Rattle.feed.proofs.carry_on.Statement.{statement}
 use Rattle.feed.proofs.carry_on.Tie as tie

@@ -1,5 +1,4 @@
 -- `feed::feed` meets its contract: the lent statuses as numbers, which feed changes in place.
--- Assumes nothing.
 use Prim.Native.Nat.{_-_, _*_}
 use native.Mathlib.Omega.{arith}
 use mathlib.Core.Path.{_≡_, ap, _∙_}

@@ -1,5 +1,4 @@
 -- `feed::feed_in_place` meets its contract.
--- Assumes nothing.
 use Prim.Native.Nat.{ℕ, _<_}
 use native.Mathlib.Omega.{arith}
 use mathlib.Core.Path.{_≡_, refl, sym, _∙_}
@@ -10,7 +9,7 @@ use mir.Val.{Fits}
 use borrow.Author.Needs.{needs}
 use Rattle.trace.specs.Lent.{refusalOr31}
 use Rattle.trace.proofs.Lists.{bytes-of, bytes-take}
-use Rattle.readiness.specs.Phases.{statusesIn}
+use Rattle.readiness.specs.inner.Phases.{statusesIn}
 use Rattle.demand3.specs.Held.{Held, held}
 use Rattle.demand3.specs.Feeding.{bench}
 use Rattle.feed.specs.Left.{Opens}

@@ -1,5 +1,4 @@
 -- `feed::opens` meets its contract.
--- Assumes nothing.
 use Prim.Native.Nat.{ℕ, _≤_}
 use native.Mathlib.Omega.{arith}
 use mathlib.Core.Path.{_≡_, refl, sym, _∙_}
@@ -7,7 +6,7 @@ use mathlib.Core.List.{List}
 use lib.ListN.{length, replicate, length-replicate}
 use denote.Ref.{now}
 use borrow.Author.Needs.{needs}
-use Rattle.readiness.specs.Phases.{statusesIn}
+use Rattle.readiness.specs.inner.Phases.{statusesIn}
 use Rattle.demand3.specs.Held.{held}
 use Rattle.feed.proofs.Accepting.{accepted}
 use Rattle.feed.proofs.opens.Statement.{statement}

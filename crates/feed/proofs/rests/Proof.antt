@@ -1,5 +1,4 @@
 -- `feed::rests` meets its contract.
--- Assumes nothing.
 use mathlib.Core.Path.{refl}
 use Rattle.feed.proofs.rests.Statement.{statement}
 use Rattle.feed.proofs.rests.Tie as tie

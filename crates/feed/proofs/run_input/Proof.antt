@@ -1,5 +1,4 @@
 -- `feed::run_input` meets its contract. The invariant is Looping's `Head`, with nothing carried, and that no slot becomes Ready before `earliest`.
--- Assumes nothing.
 use Prim.Native.Nat.{ℕ, _+_, _-_, _≤_, _<_}
 use native.Mathlib.Omega.{arith}
 use mathlib.Core.Path.{_≡_, refl, sym, ap, _∙_, subst}
@@ -14,8 +13,8 @@ use Rattle.trace.proofs.Loop.{end-few}
 use Rattle.times.specs.declared.Nanos.{Nanos}
 use Rattle.readiness.specs.declared.Status.{Status}
 use Rattle.readiness.specs.declared.Dev.{Dev}
-use Rattle.readiness.specs.Phases.{statusesIn}
-use Rattle.readiness.specs.Earliest.{ReadyFrom}
+use Rattle.readiness.specs.inner.Phases.{statusesIn}
+use Rattle.readiness.specs.inner.Earliest.{ReadyFrom}
 use Rattle.records.specs.declared.Record.{Record}
 use Rattle.records.specs.declared.Port.{Port}
 use Rattle.records.specs.State.{state}
@@ -24,7 +23,7 @@ use Rattle.feed.specs.declared.FedPort.{FedPort}
 use Rattle.feed.specs.declared.Turn.{Turn}
 use Rattle.feed.specs.declared.Turn.the-variants as turn
 use Rattle.feed.specs.Left.{carriesOn}
-use Rattle.feed.specs.Turns.{Takes, TakesTurn}
+use Rattle.feed.specs.inner.Turns.{Takes, TakesTurn}
 use Rattle.feed.proofs.Accepting.{Accepted, accepted}
 use Rattle.feed.proofs.Looping.{Head, starts, length-trace, length-statuses, Turning, turning, turned, ended-all}
 use Rattle.feed.proofs.Direct.{bound-zero}

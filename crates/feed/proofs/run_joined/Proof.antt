@@ -1,5 +1,4 @@
 -- `feed::run_joined` meets its contract: Carried has the two calls.
--- Assumes nothing.
 use Prim.Native.Nat.{ℕ, _+_, _-_, _≤_, _<_}
 use native.Mathlib.Omega.{arith}
 use mathlib.Core.Path.{_≡_, sym, ap, _∙_}
@@ -13,7 +12,7 @@ use borrow.Author.Needs.{needs}
 use Rattle.trace.specs.Format.{longest}
 use Rattle.trace.specs.Lent.{Left, refusalOr31}
 use Rattle.trace.proofs.Lists.{bytes-of, bytes-take}
-use Rattle.readiness.specs.Phases.{statusesIn}
+use Rattle.readiness.specs.inner.Phases.{statusesIn}
 use Rattle.demand3.specs.Held.{Held, held, opened, carriedOf}
 use Rattle.demand3.specs.Feeding.{bench, feeds}
 use Rattle.feed.specs.Left.{leftInPlace}

@@ -1,9 +1,8 @@
 -- `feed::run_records` meets its contract.
--- Assumes nothing.
 use mathlib.Core.Path.{_∙_}
 use denote.Ref.{now}
 use borrow.Author.Needs.{needs}
-use Rattle.readiness.specs.Phases.{statusesIn}
+use Rattle.readiness.specs.inner.Phases.{statusesIn}
 use Rattle.demand3.specs.Held.{Held, held}
 use Rattle.feed.proofs.Accepting.{Accepted, accepted}
 use Rattle.feed.proofs.NoRecord.{fresh-accepted, fresh-feeds}

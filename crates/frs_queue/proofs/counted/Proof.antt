@@ -1,5 +1,4 @@
 -- `frs_queue::counted` meets its contract: the code tests the count, the definition the sum.
--- Assumes nothing.
 use borrow.Author.Needs.{needs}
 use borrow.Author.Tests.{le-leb, lt-leb}
 use Prim.Native.Nat.{_+_, _≤_, _<_}

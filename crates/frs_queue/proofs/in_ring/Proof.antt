@@ -1,5 +1,4 @@
 -- `frs_queue::in_ring` meets its contract: a number below n is its own remainder.
--- Assumes nothing.
 use mathlib.Core.Path.{sym}
 use native.Mathlib.Nat.{mod-eq-of-lt}
 use borrow.Author.Needs.{needs}

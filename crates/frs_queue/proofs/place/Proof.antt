@@ -1,5 +1,4 @@
 -- `frs_queue::place` meets its contract: the code never forms start + k, which might not fit.
--- Assumes nothing.
 use mathlib.Core.Path.{sym}
 use Prim.Native.Nat.{_%_, _<_}
 use native.Mathlib.Nat.{mod-lt}

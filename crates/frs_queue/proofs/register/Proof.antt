@@ -1,5 +1,4 @@
 -- `frs_queue::register` meets its contract: of the depth only the low 12 bits reach the word.
--- Assumes nothing.
 use mathlib.Core.Path.{_≡_}
 use mathlib.Core.Bool.{or-true}
 use Prim.Native.Nat.{ℕ, _+_, _*_, _%_}

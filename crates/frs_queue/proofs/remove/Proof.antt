@@ -1,5 +1,4 @@
 -- `frs_queue::remove` meets its contract.
--- Assumes nothing.
 use mathlib.Core.Bool.{or-true}
 use borrow.Author.Needs.{needs}
 use borrow.Author.Tests.{eq-eqb, ne-eqb}

@@ -1,5 +1,4 @@
 -- `frs_queue::tally_dropped` meets its contract.
--- Assumes nothing.
 use borrow.Author.Needs.{needs}
 use Rattle.frs_queue.proofs.tally_dropped.Statement.{statement}
 use Rattle.frs_queue.proofs.tally_dropped.Tie as tie

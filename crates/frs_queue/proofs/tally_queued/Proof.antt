@@ -1,5 +1,4 @@
 -- `frs_queue::tally_queued` meets its contract.
--- Assumes nothing.
 use borrow.Author.Needs.{needs}
 use Rattle.frs_queue.proofs.tally_queued.Statement.{statement}
 use Rattle.frs_queue.proofs.tally_queued.Tie as tie

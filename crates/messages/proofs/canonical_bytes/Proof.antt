@@ -1,4 +1,4 @@
--- `messages::canonical_bytes` meets its contract. Assumes nothing.
+-- `messages::canonical_bytes` meets its contract.
 use Rattle.messages.specs.Messages.{canonical}
 use borrow.Author.Needs.{needs}
 use Rattle.messages.proofs.canonical_bytes.Statement.{statement}

@@ -1,4 +1,4 @@
--- `messages::frs_allowed` meets its contract. Assumes nothing.
+-- `messages::frs_allowed` meets its contract.
 use borrow.Author.Needs.{needs}
 use Rattle.messages.specs.Messages.{frsAllowed}
 use Rattle.messages.proofs.frs_allowed.Statement.{statement}

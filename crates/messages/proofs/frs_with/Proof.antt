@@ -1,4 +1,4 @@
--- `messages::frs_with` meets its contract. Assumes nothing.
+-- `messages::frs_with` meets its contract.
 use mathlib.Core.Path.{sym, _∙_}
 use Rattle.messages.specs.Messages.{frsWith}
 use borrow.Author.Needs.{needs}

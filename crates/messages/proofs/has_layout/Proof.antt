@@ -1,4 +1,4 @@
--- `messages::has_layout` meets its contract: the checks in their order. Assumes nothing.
+-- `messages::has_layout` meets its contract: the checks in their order.
 use mathlib.Core.Path.{sym, ap, _∙_}
 use mathlib.Core.Bool.{and-false}
 use Prim.Native.Nat.{ℕ}

@@ -1,4 +1,4 @@
--- `messages::is_writable` meets its contract. Assumes nothing.
+-- `messages::is_writable` meets its contract.
 use borrow.Author.Tests.{eq-eqb, ne-eqb}
 use Rattle.messages.specs.Messages.{writable}
 use borrow.Author.Needs.{needs}

@@ -1,4 +1,4 @@
--- `messages::read` meets its contract. Assumes nothing.
+-- `messages::read` meets its contract.
 use mathlib.Core.Path.{sym, ap, ap₂, _∙_}
 use Rattle.messages.specs.Messages.{readMessage, frsWith}
 use Rattle.messages.specs.declared.Message.the-variants.{Drs}

@@ -1,4 +1,4 @@
--- `messages::store` meets its contract. The loop's invariant: the first i bytes of the room are those given. Assumes nothing.
+-- `messages::store` meets its contract. The loop's invariant: the first i bytes of the room are those given.
 use mathlib.Core.Path.{_≡_, refl, ap, sym, _∙_}
 use borrow.Author.Needs.{needs}
 use borrow.Author.Tests.{eq-eqb, ne-eqb}

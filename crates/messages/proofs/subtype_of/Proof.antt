@@ -1,4 +1,4 @@
--- `messages::subtype_of` meets its contract. Assumes nothing.
+-- `messages::subtype_of` meets its contract.
 use borrow.Author.Tests.{eq-eqb, ne-eqb}
 use Rattle.messages.specs.Messages.{subtypeOf}
 use Rattle.messages.proofs.subtype_of.Statement.{statement}

@@ -1,4 +1,4 @@
--- `messages::write` meets its contract. Assumes nothing.
+-- `messages::write` meets its contract.
 use mathlib.Core.Path.{sym, ap, _∙_}
 use mathlib.Core.List.{List}
 use Prim.Native.Nat.{ℕ}

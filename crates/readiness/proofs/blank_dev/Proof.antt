@@ -1,5 +1,4 @@
 -- `readiness::blank_dev` meets its contract.
--- Assumes nothing.
 use borrow.Author.Needs.{needs}
 use Rattle.readiness.proofs.blank_dev.Statement.{statement}
 use Rattle.readiness.proofs.blank_dev.Tie as tie

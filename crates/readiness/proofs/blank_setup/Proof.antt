@@ -1,5 +1,4 @@
 -- `readiness::blank_setup` meets its contract.
--- Assumes nothing.
 use borrow.Author.Needs.{needs}
 use Rattle.readiness.proofs.blank_setup.Statement.{statement}
 use Rattle.readiness.proofs.blank_setup.Tie as tie

@@ -1,5 +1,4 @@
 -- `readiness::blank_slot` meets its contract.
--- Assumes nothing.
 use borrow.Author.Needs.{needs}
 use Rattle.readiness.proofs.blank_slot.Statement.{statement}
 use Rattle.readiness.proofs.blank_slot.Tie as tie

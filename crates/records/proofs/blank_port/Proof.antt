@@ -1,5 +1,4 @@
 -- `records::blank_port` meets its contract.
--- Assumes nothing.
 use borrow.Author.Needs.{needs}
 use Rattle.records.proofs.blank_port.Statement.{statement}
 use Rattle.records.proofs.blank_port.Tie as tie

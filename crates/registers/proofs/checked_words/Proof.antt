@@ -1,5 +1,4 @@
 -- `registers::checked_words` meets its contract.
--- Assumes nothing.
 use native.Mathlib.Omega.{arith}
 use Rattle.registers.proofs.Rules.{checked-at}
 use Rattle.registers.proofs.checked_words.Statement.{statement}

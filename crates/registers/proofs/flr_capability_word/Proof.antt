@@ -1,5 +1,4 @@
 -- `registers::flr_capability_word` meets its contract.
--- Assumes nothing.
 use native.Mathlib.Omega.{arith}
 use Rattle.registers.proofs.Rules.{capabilities-at}
 use Rattle.registers.proofs.flr_capability_word.Statement.{statement}

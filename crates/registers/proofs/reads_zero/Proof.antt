@@ -1,5 +1,4 @@
 -- `registers::reads_zero` meets its contract.
--- Assumes nothing.
 use mathlib.Core.Bool.{true, false}
 use borrow.Author.Tests.{eq-eqb, ne-eqb}
 use Rattle.registers.proofs.Rules.{reads-zero-at}

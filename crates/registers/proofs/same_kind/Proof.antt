@@ -1,5 +1,4 @@
 -- `registers::same_kind` meets its contract.
--- Assumes nothing.
 use mathlib.Core.Path.{ap₂}
 use Prim.Native.Nat.{ℕ}
 use lib.Dec.{eqb}

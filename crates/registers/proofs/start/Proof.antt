@@ -1,5 +1,4 @@
 -- `registers::start` meets its contract.
--- Assumes nothing.
 use native.Mathlib.Omega.{arith}
 use Rattle.registers.proofs.Rules.{starts-at}
 use Rattle.registers.proofs.start.Statement.{statement}

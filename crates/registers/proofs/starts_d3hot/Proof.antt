@@ -1,5 +1,4 @@
 -- `registers::starts_d3hot` meets its contract.
--- Assumes nothing.
 use borrow.Author.Needs.{needs}
 use Rattle.registers.specs.Words.{startsD3hot}
 use Rattle.registers.proofs.starts_d3hot.Statement.{statement}

@@ -1,5 +1,4 @@
 -- `registers::with_defaults` meets its contract, bit by bit.
--- Assumes nothing.
 use Rattle.bits.proofs.Bits.{is-arg, is-and, is-or, is-not, is-the}
 use Rattle.registers.specs.Words.{withDefaults}
 use Rattle.registers.proofs.Rules.{reset-bit}

@@ -1,5 +1,4 @@
 -- `settle::after_cold_reset` meets its contract.
--- Assumes nothing.
 use Rattle.readiness.specs.Status.{afterColdReset}
 use borrow.Author.Needs.{needs}
 use Rattle.settle.proofs.after_cold_reset.Statement.{statement}

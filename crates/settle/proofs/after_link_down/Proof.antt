@@ -1,5 +1,4 @@
 -- `settle::after_link_down` meets its contract.
--- Assumes nothing.
 use Rattle.readiness.specs.Status.{afterLinkDown}
 use borrow.Author.Needs.{needs}
 use Rattle.settle.proofs.after_link_down.Statement.{statement}

@@ -1,5 +1,4 @@
 -- `settle::after_reset` meets its contract.
--- Assumes nothing.
 use Rattle.readiness.specs.Status.{afterReset}
 use borrow.Author.Needs.{needs}
 use Rattle.settle.proofs.after_reset.Statement.{statement}

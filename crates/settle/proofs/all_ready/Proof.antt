@@ -1,5 +1,4 @@
 -- `settle::all_ready` meets its contract: what is left to look at decides.
--- Assumes nothing.
 use Prim.Native.Nat.{_≤_, _-_}
 use native.Mathlib.Omega.{arith}
 use mathlib.Core.Bool.{true, false}
@@ -7,7 +6,7 @@ use mathlib.Core.Path.{_≡_, refl, sym, ap, _∙_}
 use lib.ListN.{drop}
 use Rattle.readiness.specs.declared.Setup.{Setup}
 use Rattle.readiness.specs.Status.{isReady, allReadyFrom, allReady}
-use Rattle.readiness.specs.Phases.{statusesIn}
+use Rattle.readiness.specs.inner.Phases.{statusesIn}
 use Rattle.settle.proofs.Statuses.{ready-cons, ready-end}
 use borrow.Author.Needs.{needs}
 use Rattle.settle.proofs.all_ready.Statement.{statement}

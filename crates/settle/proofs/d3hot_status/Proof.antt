@@ -1,5 +1,4 @@
 -- `settle::d3hot_status` meets its contract.
--- Assumes nothing.
 use Rattle.readiness.specs.Status.{startedByD3hot}
 use borrow.Author.Needs.{needs}
 use Rattle.settle.proofs.d3hot_status.Statement.{statement}

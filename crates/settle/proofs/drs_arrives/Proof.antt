@@ -1,5 +1,4 @@
 -- `settle::drs_arrives` meets its contract.
--- Assumes nothing.
 use mathlib.Core.Path.{ap, _∙_}
 use borrow.Author.Tests.{eq-eqb, ne-eqb}
 use Rattle.readiness.specs.Root.{frsArrive, frsOfDrs, drsArrives}

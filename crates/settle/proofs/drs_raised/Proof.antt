@@ -1,5 +1,4 @@
 -- `settle::drs_raised` meets its contract.
--- Assumes nothing.
 use borrow.Author.Needs.{needs}
 use Rattle.settle.proofs.drs_raised.Statement.{statement}
 use Rattle.settle.proofs.drs_raised.Tie as tie

@@ -1,5 +1,4 @@
 -- `settle::drs_set` meets its contract.
--- Assumes nothing.
 use Rattle.readiness.specs.Root.{drsSet}
 use borrow.Author.Needs.{needs}
 use Rattle.settle.proofs.drs_set.Statement.{statement}

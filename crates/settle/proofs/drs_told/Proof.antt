@@ -1,5 +1,4 @@
 -- `settle::drs_told` meets its contract.
--- Assumes nothing.
 use mathlib.Core.Path.{ap}
 use Rattle.readiness.specs.Root.{nothingOwed}
 use borrow.Author.Needs.{needs}

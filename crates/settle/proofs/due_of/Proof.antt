@@ -1,5 +1,4 @@
 -- `settle::due_of` meets its contract.
--- Assumes nothing.
 use mathlib.Core.Path.{sym, _∙_}
 use mathlib.Core.Bool.{true, false}
 use Rattle.settle.proofs.Scan.{due-by}

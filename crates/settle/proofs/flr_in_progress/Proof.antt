@@ -1,5 +1,4 @@
 -- `settle::flr_in_progress` meets its contract.
--- Assumes nothing.
 use borrow.Author.Needs.{needs}
 use Rattle.settle.proofs.flr_in_progress.Statement.{statement}
 use Rattle.settle.proofs.flr_in_progress.Tie as tie

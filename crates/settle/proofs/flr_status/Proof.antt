@@ -1,5 +1,4 @@
 -- `settle::flr_status` meets its contract.
--- Assumes nothing.
 use Rattle.readiness.specs.Status.{startedByFlr}
 use borrow.Author.Needs.{needs}
 use Rattle.settle.proofs.flr_status.Statement.{statement}

@@ -1,5 +1,4 @@
 -- `settle::frs_arrives` meets its contract.
--- Assumes nothing.
 use mathlib.Core.Path.{ap}
 use denote.Ref.{now}
 use Rattle.frs_queue.specs.Queue.{Ring, arriveAll}

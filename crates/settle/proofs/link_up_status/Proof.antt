@@ -1,5 +1,4 @@
 -- `settle::link_up_status` meets its contract.
--- Assumes nothing.
 use borrow.Author.Needs.{needs}
 use Rattle.settle.proofs.link_up_status.Statement.{statement}
 use Rattle.settle.proofs.link_up_status.Tie as tie

@@ -1,5 +1,4 @@
 -- `settle::reset_statuses` meets its contract: the first i slots are Down.
--- Assumes nothing.
 use Prim.Native.Nat.{ℕ, _≤_, _-_}
 use native.Mathlib.Omega.{arith}
 use mathlib.Core.Path.{_≡_, sym, ap, _∙_}

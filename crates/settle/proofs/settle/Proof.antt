@@ -1,5 +1,4 @@
 -- `settle::settle` meets its contract: what is left to happen, happens to what there is now as all of it would to what there was first; then the DRS.
--- Assumes nothing.
 use Prim.Native.Nat.{_≤_}
 use native.Mathlib.Omega.{arith}
 use mathlib.Core.Bool.{Bool, not, _&&_}
@@ -9,10 +8,10 @@ use lib.ListN.{length, replicate, length-set}
 use Rattle.readiness.specs.declared.Status.{Status}
 use Rattle.readiness.specs.Status.{ready}
 use Rattle.readiness.specs.Events.{due}
-use Rattle.readiness.specs.Phases.{statusesIn}
+use Rattle.readiness.specs.inner.Phases.{statusesIn}
 use Rattle.readiness.specs.Settle.{scene}
 use Rattle.readiness.proofs.AtTheEnd.{allHappen}
-use Rattle.settle.specs.Prepared.{downFrom, numbers, Prepared}
+use Rattle.settle.specs.inner.Prepared.{downFrom, numbers, Prepared}
 use Rattle.settle.proofs.Settling.{Left, next-event, none-left, left-most, left-below, next-left, turns, left-stops, settles-told}
 use borrow.Author.Needs.{needs}
 use Rattle.settle.proofs.settle.Statement.{statement}

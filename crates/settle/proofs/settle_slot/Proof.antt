@@ -1,5 +1,4 @@
 -- `settle::settle_slot` meets its contract.
--- Assumes nothing.
 use mathlib.Core.Path.{sym, ap, _∙_}
 use Rattle.readiness.specs.Status.{ready}
 use Rattle.readiness.specs.Root.{Root}

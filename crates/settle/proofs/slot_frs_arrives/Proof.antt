@@ -1,5 +1,4 @@
 -- `settle::slot_frs_arrives` meets its contract.
--- Assumes nothing.
 use mathlib.Core.Path.{sym, ap, _∙_}
 use mathlib.Core.List.{List}
 use denote.Ref.{now}

@@ -1,5 +1,4 @@
 -- `settle::slots_of` meets its contract.
--- Assumes nothing.
 use borrow.Author.Tests.{lt-ltb, le-ltb}
 use Rattle.settle.proofs.slots_of.Statement.{statement}
 use Rattle.settle.proofs.slots_of.Tie as tie

@@ -1,5 +1,4 @@
 -- `settle::start_all` meets its contract: the first i slots are started.
--- Assumes nothing.
 use Prim.Native.Nat.{ℕ, _≤_, _-_}
 use native.Mathlib.Omega.{arith}
 use mathlib.Core.Path.{_≡_, refl, sym, ap, ap₂, _∙_}
@@ -12,7 +11,7 @@ use Rattle.readiness.specs.declared.Cause.the-variants.{LinkUp}
 use Rattle.readiness.specs.declared.Status.{Status}
 use Rattle.readiness.specs.declared.Setup.{Setup}
 use Rattle.readiness.specs.Status.{pending, entryOf, eachFrom, readyAfterLinkUp}
-use Rattle.readiness.specs.Phases.{statusesIn}
+use Rattle.readiness.specs.inner.Phases.{statusesIn}
 use Rattle.settle.proofs.Statuses.{each-none, each-more}
 use Rattle.readiness.proofs.PhaseNumbers.{statuses-same}
 use borrow.Author.Needs.{needs}

@@ -1,5 +1,4 @@
 -- `settle::status_frs_arrives` meets its contract.
--- Assumes nothing.
 use Prim.Native.Nat.{ℕ}
 use native.Mathlib.Omega.{arith}
 use mathlib.Core.Path.{_≡_, sym, ap, _∙_}

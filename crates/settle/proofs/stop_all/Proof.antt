@@ -1,5 +1,4 @@
 -- `settle::stop_all` meets its contract: the first i slots are Down.
--- Assumes nothing.
 use Prim.Native.Nat.{ℕ, _≤_, _-_}
 use native.Mathlib.Omega.{arith}
 use mathlib.Core.Path.{_≡_, refl, sym, ap, _∙_}
@@ -7,7 +6,7 @@ use mathlib.Core.List.{List}
 use lib.ListN.{length, set}
 use Rattle.readiness.specs.declared.Status.{Status}
 use Rattle.readiness.specs.Status.{down, eachFrom}
-use Rattle.readiness.specs.Phases.{statusesIn}
+use Rattle.readiness.specs.inner.Phases.{statusesIn}
 use Rattle.settle.proofs.Statuses.{each-none, each-more}
 use Rattle.readiness.proofs.PhaseNumbers.{statuses-same}
 use borrow.Author.Needs.{needs}

@@ -1,5 +1,4 @@
 -- `settle::tell` meets its contract.
--- Assumes nothing.
 use mathlib.Core.Path.{sym, ap, _∙_}
 use mathlib.Core.Bool.{Bool, cond}
 use denote.Ref.{now}

@@ -1,5 +1,4 @@
 -- `cases::front::are_good_entries` is safe and ends: it counts to 32.
--- Assumes nothing.
 use borrow.Author.Needs.{needs}
 use Prim.Native.Nat.{_≤_, _-_}
 use Rattle.cases.proofs.front.are_good_entries.Statement.{statement}

@@ -1,5 +1,4 @@
 -- `cases::front::entries_in` is safe and ends: it counts to 32.
--- Assumes nothing.
 use borrow.Author.Needs.{needs}
 use Prim.Native.Nat.{_≤_, _-_}
 use mathlib.Core.Path.{_≡_}

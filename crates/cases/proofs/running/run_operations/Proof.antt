@@ -1,5 +1,4 @@
 -- `cases::running::run_operations` is safe and ends: the measure is the number of turns that are left, and what is lent keeps its length.
--- Assumes nothing.
 use borrow.Author.Needs.{needs}
 use mathlib.Core.Path.{_≡_}
 use lib.ListN.{length}

@@ -1,5 +1,4 @@
 -- `feed::choosing::lowered` meets its contract.
--- Assumes nothing.
 use borrow.Author.Needs.{needs}
 use Rattle.feed.proofs.Direct.{bound-down, bound-brought, bound-started}
 use Rattle.feed.proofs.choosing.lowered.Statement.{statement}

@@ -1,5 +1,4 @@
 -- `feed::choosing::of_hardware` meets its contract.
--- Assumes nothing.
 use borrow.Author.Needs.{needs}
 use borrow.Author.Tests.{le-ltb}
 use Rattle.feed.proofs.choosing.of_hardware.Statement.{statement}

@@ -1,5 +1,4 @@
 -- `feed::choosing::of_read` meets its contract.
--- Assumes nothing.
 use borrow.Author.Needs.{needs}
 use borrow.Author.Tests.{le-ltb}
 use Rattle.feed.proofs.choosing.of_read.Statement.{statement}

@@ -1,10 +1,9 @@
 -- `feed::choosing::turn_of` meets its contract.
--- Assumes nothing.
 use borrow.Author.Needs.{needs}
 use mathlib.Core.Path.{ap, sym, subst}
 use Rattle.records.specs.declared.Record.{Record}
-use Rattle.records.specs.Parts.{partOf}
-use Rattle.feed.specs.Turns.{Takes}
+use Rattle.records.specs.inner.Parts.{partOf}
+use Rattle.feed.specs.inner.Turns.{Takes}
 use Rattle.feed.proofs.choosing.turn_of.Statement.{statement}
 use Rattle.feed.proofs.choosing.turn_of.Tie as tie
 

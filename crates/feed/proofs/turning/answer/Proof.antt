@@ -1,5 +1,4 @@
 -- `feed::turning::answer` meets its contract.
--- Assumes nothing.
 use borrow.Author.Needs.{needs}
 use Rattle.feed.proofs.turning.answer.Statement.{statement}
 use Rattle.feed.proofs.turning.answer.Tie as tie

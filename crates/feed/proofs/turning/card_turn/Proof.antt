@@ -1,9 +1,8 @@
 -- `feed::turning::card_turn` meets its contract.
--- Assumes nothing.
 use mathlib.Core.Path.{_∙_}
 use borrow.Author.Needs.{needs}
 use denote.Ref.{now}
-use Rattle.readiness.specs.Phases.{statusesIn}
+use Rattle.readiness.specs.inner.Phases.{statusesIn}
 use Rattle.readiness.proofs.Bounds.{bound-earliest}
 use Rattle.readiness.proofs.PhaseNumbers.{statuses-same}
 use Rattle.feed.proofs.Running.{card-runs}

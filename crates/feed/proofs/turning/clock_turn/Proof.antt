@@ -1,5 +1,4 @@
 -- `feed::turning::clock_turn` meets its contract.
--- Assumes nothing.
 use mathlib.Core.Path.{refl}
 use borrow.Author.Needs.{needs}
 use Rattle.records.specs.declared.Record.the-variants as variants

@@ -1,5 +1,4 @@
 -- `feed::turning::frs_turn` meets its contract.
--- Assumes nothing.
 use mathlib.Core.Path.{refl}
 use borrow.Author.Needs.{needs}
 use denote.Ref.{now}

@@ -1,11 +1,10 @@
 -- `feed::turning::port_turn` meets its contract.
--- Assumes nothing.
 use Prim.Native.Nat.{ℕ}
 use mathlib.Core.Path.{sym, ap, _∙_}
 use borrow.Author.Needs.{needs}
 use denote.Ref.{now}
 use Rattle.records.specs.PortRecords.{front}
-use Rattle.records.specs.Parts.{portRun}
+use Rattle.records.specs.inner.Parts.{portRun}
 use Rattle.feed.proofs.Running.{port-runs}
 use Rattle.feed.proofs.Direct.{turned-of}
 use Rattle.feed.proofs.turning.port_turn.Statement.{statement}

@@ -1,5 +1,4 @@
 -- `otsnebura::options::options_given` is safe and ends: it counts to 8.
--- Assumes nothing.
 use borrow.Author.Needs.{needs}
 use Prim.Native.Nat.{_≤_, _-_}
 use Rattle.otsnebura.proofs.options.options_given.Statement.{statement}

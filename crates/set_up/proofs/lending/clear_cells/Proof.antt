@@ -1,5 +1,4 @@
 -- `set_up::lending::clear_cells` meets its contract: the first i cells are 0.
--- Assumes nothing.
 use Prim.Native.Nat.{ℕ, _≤_, _-_}
 use native.Mathlib.Omega.{arith}
 use native.Mathlib.Nat.{sub-zero}

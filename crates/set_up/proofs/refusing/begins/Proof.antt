@@ -1,5 +1,4 @@
 -- `set_up::refusing::begins` meets its contract.
--- Assumes nothing.
 use mathlib.Core.Path.{_≡_}
 use native.Mathlib.Omega.{arith}
 use lib.ListN.{length}

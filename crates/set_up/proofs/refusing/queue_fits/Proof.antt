@@ -1,5 +1,4 @@
 -- `set_up::refusing::queue_fits` meets its contract.
--- Assumes nothing.
 use native.Mathlib.Omega.{arith}
 use borrow.Author.Tests.{lt-ltb, le-ltb}
 use Rattle.demand3.specs.Refusals.{queueFits}

@@ -1,5 +1,4 @@
 -- `set_up::refusing::refusal` meets its contract: the tests in their order.
--- Assumes nothing.
 use Prim.Native.Nat.{ℕ, _/_}
 use mathlib.Core.Path.{_≡_, refl, sym, _∙_}
 use mathlib.Core.Bool.{true}
@@ -8,7 +7,7 @@ use lib.ListN.{length}
 use denote.Ref.{now}
 use borrow.Author.Tests.{not-true, not-false}
 use borrow.Author.Needs.{needs}
-use Rattle.readiness.specs.Phases.{statusesIn}
+use Rattle.readiness.specs.inner.Phases.{statusesIn}
 use Rattle.readiness.proofs.PhaseNumbers.{statuses-length}
 use Rattle.records.specs.Sound.{sound}
 use Rattle.demand3.specs.Held.{Held, held, stateOf}

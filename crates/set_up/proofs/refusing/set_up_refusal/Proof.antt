@@ -1,5 +1,4 @@
 -- `set_up::refusing::set_up_refusal` meets its contract: the tests in their order.
--- Assumes nothing.
 use mathlib.Core.Path.{_≡_, sym, _∙_}
 use mathlib.Core.Bool.{true}
 use lib.ListN.{length}

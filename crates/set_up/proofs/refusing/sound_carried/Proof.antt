@@ -1,5 +1,4 @@
 -- `set_up::refusing::sound_carried` meets its contract.
--- Assumes nothing.
 use borrow.Author.Tests.{lt-leb, le-leb}
 use borrow.Author.Needs.{needs}
 use Rattle.demand3.specs.Refusals.{soundCarried}

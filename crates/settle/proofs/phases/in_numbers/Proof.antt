@@ -1,11 +1,10 @@
 -- `settle::phases::in_numbers` meets its contract: the first i slots are in.
--- Assumes nothing.
 use Prim.Native.Nat.{_+_, _≤_, _-_}
 use native.Mathlib.Omega.{arith}
 use mathlib.Core.Path.{_≡_, refl, ap, _∙_}
 use lib.ListN.{length, take}
 use Rattle.readiness.specs.Status.{down}
-use Rattle.readiness.specs.Phases.{statusesIn}
+use Rattle.readiness.specs.inner.Phases.{statusesIn}
 use Rattle.settle.proofs.Statuses.{take-put, take-both}
 use Rattle.readiness.proofs.PhaseNumbers.{statuses-length}
 use borrow.Author.Needs.{needs}

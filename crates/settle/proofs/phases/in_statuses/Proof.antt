@@ -1,10 +1,9 @@
 -- `settle::phases::in_statuses` meets its contract: the first i slots are there.
--- Assumes nothing.
 use Prim.Native.Nat.{_≤_, _-_}
 use native.Mathlib.Omega.{arith}
 use mathlib.Core.Path.{_≡_, refl}
 use lib.ListN.{length, take, length-set}
-use Rattle.readiness.specs.Phases.{statusesIn}
+use Rattle.readiness.specs.inner.Phases.{statusesIn}
 use Rattle.settle.proofs.Statuses.{take-put, take-both}
 use Rattle.readiness.proofs.PhaseNumbers.{statuses-length}
 use borrow.Author.Needs.{needs}

@@ -1,5 +1,4 @@
 -- `settle::phases::pending` meets its contract.
--- Assumes nothing.
 use borrow.Author.Needs.{needs}
 use Rattle.settle.proofs.phases.pending.Statement.{statement}
 use Rattle.settle.proofs.phases.pending.Tie as tie

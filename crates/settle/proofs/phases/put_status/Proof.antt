@@ -1,5 +1,4 @@
 -- `settle::phases::put_status` meets its contract.
--- Assumes nothing.
 use native.Mathlib.Omega.{arith}
 use lib.ListN.{length-set}
 use Rattle.readiness.proofs.PhaseNumbers.{statuses-place, put-down, put-ready, put-link-up, put-d3hot, put-flr}

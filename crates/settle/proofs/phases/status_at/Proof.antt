@@ -1,5 +1,4 @@
 -- `settle::phases::status_at` meets its contract.
--- Assumes nothing.
 use native.Mathlib.Omega.{arith}
 use mathlib.Core.Path.{sym, _∙_}
 use Rattle.readiness.proofs.PhaseNumbers.{statuses-place, statuses-at}

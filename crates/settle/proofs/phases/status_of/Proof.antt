@@ -1,11 +1,10 @@
 -- `settle::phases::status_of` meets its contract.
--- Assumes nothing.
 use mathlib.Core.Path.{ap, _∙_}
 use Rattle.times.specs.declared.Nanos.{Nanos}
 use Rattle.readiness.specs.declared.Cause.the-variants.{Flr}
 use Rattle.readiness.specs.Status.{pending}
 use borrow.Author.Tests.{ne-eqb}
-use Rattle.readiness.specs.Phases.{statusOf}
+use Rattle.readiness.specs.inner.Phases.{statusOf}
 use borrow.Author.Needs.{needs}
 use Rattle.settle.proofs.phases.status_of.Statement.{statement}
 use Rattle.settle.proofs.phases.status_of.Tie as tie

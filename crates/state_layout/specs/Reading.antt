@@ -1,0 +1,73 @@
+-- A state image (case stream, version 2), as it is read. Bytes past its end count as 0: so a status that is not lent is Down.
+use Prim.Native.Nat.{ℕ, zero, suc, _+_}
+use mathlib.Core.Bool.{Bool, true, not, _&&_, _||_, cond}
+use mathlib.Core.List.{List, [], _∷_}
+use lib.Dec.{eqb, leb}
+use lib.ListN.{take, drop, getD}
+use Rattle.bits.specs.Lists.{listed}
+use Rattle.times.specs.declared.Nanos.{Nanos}
+use Rattle.readiness.specs.declared.Cause.{Cause}
+use Rattle.readiness.specs.declared.Cause.the-variants.{LinkUp, Flr, D3hot}
+use Rattle.readiness.specs.declared.Phase.{Phase}
+use Rattle.readiness.specs.declared.Phase.the-variants.{Down, Pending, Ready}
+use Rattle.readiness.specs.declared.Status.{Status}
+use Rattle.records.specs.declared.Port.{Port}
+use Rattle.state_layout.specs.Numbers.{numberAt}
+use Rattle.state_layout.specs.Image.{notKept}
+pub use Rattle.state_layout.specs.Numbers.{byteAt, timeAt, yes}
+pub use Rattle.state_layout.specs.Image.{controlIn, queueIn, devIn}
+
+-- ---- A good image
+-- a yes/no byte is 0 or 1
+abbrev pub yesOrNo : ℕ → List ℕ → Bool
+yesOrNo at l = leb (byteAt at l) 1
+
+-- no moment of the last reset is kept; link, owed, Received, Overflow, DRS Received, visibility, FRS interrupt and broken are yes or no
+unfoldable pub goodPort : List ℕ → Bool
+goodPort l =
+    eqb (numberAt 8 8 l) notKept
+    && yesOrNo 16 l
+    && yesOrNo 17 l
+    && yesOrNo 18 l
+    && yesOrNo 19 l
+    && yesOrNo 20 l
+    && yesOrNo 21 l
+    && yesOrNo 22 l
+    && yesOrNo 45 l
+
+-- a phase is at most 2, a cause at most 3, a Pending slot has one, and no slot has a set of children
+unfoldable pub goodStatus : List ℕ → Bool
+goodStatus l = leb (byteAt 0 l) 2 && leb (byteAt 1 l) 3 && (not (eqb (byteAt 0 l) 1) || not (eqb (byteAt 1 l) 0)) && eqb (byteAt 18 l) notKept
+
+unfoldable pub goodStatuses : ℕ → List ℕ → Bool
+goodStatuses zero l = true
+goodStatuses (suc n) l = goodStatus l && goodStatuses n (drop 27 l)
+
+-- A GOOD IMAGE: no byte is out of its range
+unfoldable pub isGood : List ℕ → Bool
+isGood l = goodPort l && goodStatuses 32 (drop 46 l)
+
+-- ---- What is read
+-- the n bytes from an index on
+unfoldable pub bytesFrom : (n at : ℕ) → List ℕ → List ℕ
+bytesFrom n at l = listed n λ i. byteAt (at + i) l
+
+-- THE PORT
+unfoldable pub portIn : List ℕ → Port
+portIn l = record { dev = devIn l; carried = bytesFrom 16 29 l; «carried_len» = byteAt 28 l; broken = yes 45 l }
+
+-- what a status has no use for is ignored
+abbrev pub causeIn : (cause : ℕ) → (end : Nanos) → Cause
+causeIn cause end = cond (eqb cause 1) LinkUp (cond (eqb cause 2) (Flr end) D3hot)
+
+abbrev pub phaseIn : (phase : ℕ) → Cause → (ready : Nanos) → Phase
+phaseIn phase cause ready = cond (eqb phase 0) Down (cond (eqb phase 1) (Pending cause ready) Ready)
+
+-- a status, from its first byte on
+unfoldable pub statusIn : List ℕ → Status
+statusIn l = record { phase = phaseIn (byteAt 0 l) (causeIn (byteAt 1 l) (timeAt 10 l)) (timeAt 2 l) }
+
+-- THE STATUSES, from the first one's first byte on
+unfoldable pub statusesInBytes : ℕ → List ℕ → List Status
+statusesInBytes zero l = []
+statusesInBytes (suc n) l = statusIn l ∷ statusesInBytes n (drop 27 l)

@@ -75,7 +75,7 @@ abbrev pub start : State
 start = stateOf (setsUp setup defaults lent .held)
 
 abbrev pub startAt : ℕ → State
-startAt clock = state (withClock (start .dev) (record { 0 = clock })) (start .statuses) (start .live) (start .cells)
+startAt clock = state (withClock (start .port) (record { 0 = clock })) (start .statuses) (start .live) (start .cells)
 
 -- ---- The plain bench's answers to a trace, and its answer to the last record
 abbrev pub answers : State → List ℕ → List ℕ
@@ -180,7 +180,7 @@ case9 =
     record {
       got =
           answers nearEnd (advance 1) ++ answers nearEnd (advance 2)
-          ++ plain (device setup defaults) nearEnd (advance 1) .dev .dev .clock .0 ∷ plain (device setup defaults) nearEnd (advance 2) .dev .dev .clock .0 ∷ [];
+          ++ plain (device setup defaults) nearEnd (advance 1) .state .port .clock .0 ∷ plain (device setup defaults) nearEnd (advance 2) .state .port .clock .0 ∷ [];
       wanted = replicate 8 0 ++ 22 ∷ 0 ∷ 0 ∷ 0 ∷ 0 ∷ 0 ∷ 0 ∷ 0 ∷ 1000000000000000 ∷ 999999999999999 ∷ [];
     }
 

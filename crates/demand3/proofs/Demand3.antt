@@ -30,20 +30,20 @@ use Rattle.demand3.proofs.TwoRecords.{two-records}
 shows : (h : Held) (p : Bench State) → benchOf h ≡ p → Shows h p
 shows h p e =
     record {
-      registers = ap (λ (b : Bench State). b .dev .live) e;
-      statuses = ap (λ (b : Bench State). b .dev .statuses) e;
-      cells = ap (λ (b : Bench State). b .dev .cells) e;
-      start = ap (λ (b : Bench State). b .dev .dev .queue .start) e;
-      depth = ap (λ (b : Bench State). b .dev .dev .queue .depth) e;
-      received = ap (λ (b : Bench State). b .dev .dev .queue .received) e;
-      overflow = ap (λ (b : Bench State). b .dev .dev .queue .overflow) e;
-      drsReceived = ap (λ (b : Bench State). b .dev .dev .«drs_received») e;
-      visibility = ap (λ (b : Bench State). b .dev .dev .control .visibility) e;
-      frsInterrupt = ap (λ (b : Bench State). b .dev .dev .control .«frs_interrupt») e;
-      signalling = ap (λ (b : Bench State). b .dev .dev .control .signalling) e;
-      link = ap (λ (b : Bench State). b .dev .dev .link) e;
-      owed = ap (λ (b : Bench State). b .dev .dev .owed) e;
-      clock = ap (λ (b : Bench State). b .dev .dev .clock) e;
+      registers = ap (λ (b : Bench State). b .state .live) e;
+      statuses = ap (λ (b : Bench State). b .state .statuses) e;
+      cells = ap (λ (b : Bench State). b .state .cells) e;
+      start = ap (λ (b : Bench State). b .state .port .queue .start) e;
+      depth = ap (λ (b : Bench State). b .state .port .queue .depth) e;
+      received = ap (λ (b : Bench State). b .state .port .queue .received) e;
+      overflow = ap (λ (b : Bench State). b .state .port .queue .overflow) e;
+      drsReceived = ap (λ (b : Bench State). b .state .port .«drs_received») e;
+      visibility = ap (λ (b : Bench State). b .state .port .control .visibility) e;
+      frsInterrupt = ap (λ (b : Bench State). b .state .port .control .«frs_interrupt») e;
+      signalling = ap (λ (b : Bench State). b .state .port .control .signalling) e;
+      link = ap (λ (b : Bench State). b .state .port .link) e;
+      owed = ap (λ (b : Bench State). b .state .port .owed) e;
+      clock = ap (λ (b : Bench State). b .state .port .clock) e;
       carried = ap (λ (b : Bench State). b .carried) e;
       broken = ap (λ (b : Bench State). b .broken) e;
     }
@@ -56,7 +56,7 @@ module _ (setup : Setup) (defaults : List ℕ) (h : Held) (t : Typed setup h) wh
   pub from-start : (cs : List Call) → BytesIn cs → Start setup defaults h → FromStart setup defaults h (calls setup defaults h cs)
   from-start cs i s =
       let f = from-fresh (bench setup defaults) h (Good setup defaults h t) (keeps setup defaults h t) cs (fresh s) i in
-      record { answers = f .answers; left = shows (calls setup defaults h cs .held) _ (λ k. record { dev = f .device k; carried = f .carried k; broken = f .broken k }) }
+      record { answers = f .answers; left = shows (calls setup defaults h cs .held) _ (λ k. record { state = f .device k; carried = f .carried k; broken = f .broken k }) }
 
   -- EVERY LIST OF CALLS IS ONE TRACE ON THE PLAIN BENCH
   pub claim : (cs : List Call) → BytesIn cs → Claim setup defaults h cs (calls setup defaults h cs)

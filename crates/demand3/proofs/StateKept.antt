@@ -50,7 +50,7 @@ accepted-setup setup defaults h b p e =
     }
 
 -- what a call leaves of a sound state is sound memory
-pub kept-sound : (setup : Setup) (p : Bench State) → Sound setup (p .dev) → begun (p .carried) ≡ true → soundHeld setup (heldOf p) ≡ true
+pub kept-sound : (setup : Setup) (p : Bench State) → Sound setup (p .state) → begun (p .carried) ≡ true → soundHeld setup (heldOf p) ≡ true
 kept-sound setup p s b =
     sound-says setup (heldOf p) .tested (record { state = s; count = begun-short (p .carried) b; carried = ap next (take-pad 16 (p .carried)) ∙ begun-is (p .carried) b })
 
@@ -71,7 +71,7 @@ module _ (setup : Setup) (defaults : List ℕ) (h : Held) (t : Typed setup h) wh
         };
       }
 
-  still-accepted : (p : Bench State) → Good (p .dev) → begun (p .carried) ≡ true → refusal (bench setup defaults) (heldOf p) ≡ 0
+  still-accepted : (p : Bench State) → Good (p .state) → begun (p .carried) ≡ true → refusal (bench setup defaults) (heldOf p) ≡ 0
   still-accepted p g b =
       let k = g .since .kept in
       refusal-none (bench setup defaults) (heldOf p)
@@ -87,6 +87,6 @@ module _ (setup : Setup) (defaults : List ℕ) (h : Held) (t : Typed setup h) wh
         good = start-good;
         carries = λ e. incomplete-begun (carriedOf (h .port)) (sound-says setup h .holds (refusal-accepted (bench setup defaults) h e .1) .carried);
         run = λ s r w b g. record { setUp = g .setUp; since = good-keeps setup defaults (stateOf h) s r w b (g .since) };
-        kept = λ p g b. λ i. record { dev = p .dev; carried = take-pad 16 (p .carried) i; broken = p .broken };
+        kept = λ p g b. λ i. record { state = p .state; carried = take-pad 16 (p .carried) i; broken = p .broken };
         accepted = still-accepted;
       }

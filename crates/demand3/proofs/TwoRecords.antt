@@ -34,14 +34,14 @@ unfolding decode four
 decoded n h = ap advance (four-bytes n h)
 
 module _ {S : Type 0} (D : Device S) (s : S) where
-  plain-one : (n : ℕ) → plain D s (advanceBy n) ≡ record { dev = D .run s (advanceBy n) .dev; carried = []; answers = D .run s (advanceBy n) .answer ++ [] }
+  plain-one : (n : ℕ) → plain D s (advanceBy n) ≡ record { state = D .run s (advanceBy n) .state; carried = []; answers = D .run s (advanceBy n) .answer ++ [] }
   unfolding plain runs cut cutIn whole known body sizeOf
   plain-one n = refl
 
   plain-two : (a b : ℕ)
       → (let x = D .run s (advanceBy a) in
-      let y = D .run (x .dev) (advanceBy b) in
-      plain D s (advanceBy a ++ advanceBy b) ≡ record { dev = y .dev; carried = []; answers = x .answer ++ (y .answer ++ []) })
+      let y = D .run (x .state) (advanceBy b) in
+      plain D s (advanceBy a ++ advanceBy b) ≡ record { state = y .state; carried = []; answers = x .answer ++ (y .answer ++ []) })
   unfolding plain runs cut cutIn whole known body sizeOf
   plain-two a b = refl
 
@@ -71,7 +71,7 @@ module _ (setup : Setup) (defaults : List ℕ) (s : State) where
   ran t n = run setup defaults t (advance n)
 
   adds-up : (x y w : Ran State) → TwoAreOne w x y
-      → AddUp (record { dev = y .after; carried = []; answers = inBytes x .answer ++ (inBytes y .answer ++ []) }) (record { dev = w .after; carried = []; answers = inBytes w .answer ++ [] })
+      → AddUp (record { state = y .after; carried = []; answers = inBytes x .answer ++ (inBytes y .answer ++ []) }) (record { state = w .after; carried = []; answers = inBytes w .answer ++ [] })
   unfolding inBytes answerBytes
   adds-up x y w t =
       record {
@@ -86,7 +86,7 @@ module _ (setup : Setup) (defaults : List ℕ) (s : State) where
       }
 
   -- TWO ADVANCES ARE ONE, on the plain bench and on bytes
-  pub two-records : length (s .statuses) ≤ 32 → (a b : ℕ) → a + b < 4294967296 → s .dev .clock .0 + a + b ≤ clockEnd
+  pub two-records : length (s .statuses) ≤ 32 → (a b : ℕ) → a + b < 4294967296 → s .port .clock .0 + a + b ≤ clockEnd
       → AddUp (plain (device setup defaults) s (advanceBy a ++ advanceBy b)) (plain (device setup defaults) s (advanceBy (a + b)))
   unfolding inBytes
   two-records few a b small clock =

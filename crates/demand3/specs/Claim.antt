@@ -28,22 +28,22 @@ pub record Typed (setup : Setup) (h : Held) : Type 0 where
 -- ---- What is compared
 -- the lent memory h shows the bench p, part by part
 pub record Shows (h : Held) (p : Bench State) : Type 0 where
-  pub registers : h .live ≡ p .dev .live
-  pub statuses : h .statuses ≡ p .dev .statuses
+  pub registers : h .live ≡ p .state .live
+  pub statuses : h .statuses ≡ p .state .statuses
   -- the queue: cells, start, depth
-  pub cells : h .cells ≡ p .dev .cells
-  pub start : h .port .dev .queue .start ≡ p .dev .dev .queue .start
-  pub depth : h .port .dev .queue .depth ≡ p .dev .dev .queue .depth
+  pub cells : h .cells ≡ p .state .cells
+  pub start : h .port .dev .queue .start ≡ p .state .port .queue .start
+  pub depth : h .port .dev .queue .depth ≡ p .state .port .queue .depth
   -- the port bits
-  pub received : h .port .dev .queue .received ≡ p .dev .dev .queue .received
-  pub overflow : h .port .dev .queue .overflow ≡ p .dev .dev .queue .overflow
-  pub drsReceived : h .port .dev .«drs_received» ≡ p .dev .dev .«drs_received»
-  pub visibility : h .port .dev .control .visibility ≡ p .dev .dev .control .visibility
-  pub frsInterrupt : h .port .dev .control .«frs_interrupt» ≡ p .dev .dev .control .«frs_interrupt»
-  pub signalling : h .port .dev .control .signalling ≡ p .dev .dev .control .signalling
-  pub link : h .port .dev .link ≡ p .dev .dev .link
-  pub owed : h .port .dev .owed ≡ p .dev .dev .owed
-  pub clock : h .port .dev .clock ≡ p .dev .dev .clock
+  pub received : h .port .dev .queue .received ≡ p .state .port .queue .received
+  pub overflow : h .port .dev .queue .overflow ≡ p .state .port .queue .overflow
+  pub drsReceived : h .port .dev .«drs_received» ≡ p .state .port .«drs_received»
+  pub visibility : h .port .dev .control .visibility ≡ p .state .port .control .visibility
+  pub frsInterrupt : h .port .dev .control .«frs_interrupt» ≡ p .state .port .control .«frs_interrupt»
+  pub signalling : h .port .dev .control .signalling ≡ p .state .port .control .signalling
+  pub link : h .port .dev .link ≡ p .state .port .link
+  pub owed : h .port .dev .owed ≡ p .state .port .owed
+  pub clock : h .port .dev .clock ≡ p .state .port .clock
   pub carried : carriedOf (h .port) ≡ p .carried
   pub broken : h .port .broken ≡ p .broken
 
@@ -54,7 +54,7 @@ advanceBy n = 1 ∷ n % 256 ∷ n / 256 % 256 ∷ n / 65536 % 256 ∷ n / 167772
 -- Two records 01 against one: the same state; of the answers, queued and dropped (bytes 2 and 3) add up, and interrupts (byte 1) are the
 -- or; all three are done (byte 0)
 pub record AddUp (two one : Benched State) : Type 0 where
-  pub state : two .dev ≡ one .dev
+  pub state : two .state ≡ one .state
   pub carried : two .carried ≡ one .carried
   pub queued : getD (two .answers) 2 0 + getD (two .answers) 10 0 ≡ getD (one .answers) 2 0
   pub dropped : getD (two .answers) 3 0 + getD (two .answers) 11 0 ≡ getD (one .answers) 3 0
@@ -74,7 +74,7 @@ module _ (setup : Setup) (defaults : List ℕ) where
 
   -- what it comes to, broken or not
   abbrev pub plainBench : Held → (bytes : List ℕ) → (broken : Bool) → Bench State
-  plainBench h bytes broken = record { dev = plainFrom h bytes .dev; carried = plainFrom h bytes .carried; broken = broken }
+  plainBench h bytes broken = record { state = plainFrom h bytes .state; carried = plainFrom h bytes .carried; broken = broken }
 
   -- where 01 starts: a sound port, its set-up not refused, unbroken, nothing carried
   pub record Start (h : Held) : Type 0 where

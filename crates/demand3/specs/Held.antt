@@ -39,12 +39,12 @@ opened d = record { dev = d; carried = replicate 16 0; «carried_len» = 0; brok
 
 -- the bench that the lent memory stands for
 abbrev pub benchOf : Held → Bench State
-benchOf h = record { dev = stateOf h; carried = carriedOf (h .port); broken = h .port .broken }
+benchOf h = record { state = stateOf h; carried = carriedOf (h .port); broken = h .port .broken }
 
 -- the lent memory that stands for a bench: past the carried bytes there are zeros
 abbrev pub heldOf : Bench State → Held
 heldOf p =
-    held (record { dev = p .dev .dev; carried = pad 16 (p .carried); «carried_len» = length (p .carried); broken = p .broken })
-    (p .dev .statuses)
-    (p .dev .live)
-    (p .dev .cells)
+    held (record { dev = p .state .port; carried = pad 16 (p .carried); «carried_len» = length (p .carried); broken = p .broken })
+    (p .state .statuses)
+    (p .state .live)
+    (p .state .cells)

@@ -118,7 +118,7 @@ module _ {k : Setup} {defaults : List ℕ} {port : Port} {statuses : List Status
   pub eight-answers : length (ran .answer) ≡ 8
   eight-answers = device k defaults .eight s₀ first
 
-  good : Good k defaults s₀ (ran .dev)
+  good : Good k defaults s₀ (ran .state)
   good =
       turns (bench k defaults) (Good k defaults s₀) (good-keeps k defaults s₀) s₀ (carriedOf port) input answers answers s₀ 0 0
       (begins (bench k defaults) (Good k defaults s₀) (good-keeps k defaults s₀) s₀ (carriedOf port) input answers (j .accepted .good) (j .accepted .begun) (j .carriedBytes) (j .inputBytes))
@@ -126,10 +126,10 @@ module _ {k : Setup} {defaults : List ℕ} {port : Port} {statuses : List Status
 
   -- what is lent between the two calls
   abbrev pub between : Held
-  between = heldOf (carrying (ran .dev) [])
+  between = heldOf (carrying (ran .state) [])
 
   pub between-accepted : refusalOr31 (bench k defaults) between ≡ 0
-  between-accepted = open-accepted k defaults lent (j .notRefused) (ran .dev) (good .kept .statuses) (good .kept .live) (good .kept .cells) (good .kept .sound)
+  between-accepted = open-accepted k defaults lent (j .notRefused) (ran .state) (good .kept .statuses) (good .kept .live) (good .kept .cells) (good .kept .sound)
 
   pub opened-accepted : refusalOr31 (bench k defaults) (held (opened (port .dev)) statuses live cells) ≡ 0
   opened-accepted = open-accepted k defaults lent (j .notRefused) s₀ refl refl refl (j .accepted .good .kept .sound)
@@ -153,7 +153,7 @@ module _ {k : Setup} {defaults : List ℕ} {port : Port} {statuses : List Status
       _∙_ {A = Left Held}
       (λ i. record { number = x .number; consumed = m i; written = 8 + x .written; held = x .held; answers = ran .answer ++ x .answers })
       (rejoin (bench k defaults) s₀ (carriedOf port) input answers first lent between
-      (λ i. record { dev = s₀; carried = carriedOf port; broken = goes-on (bench k defaults) lent (j .notRefused) .1 i })
+      (λ i. record { state = s₀; carried = carriedOf port; broken = goes-on (bench k defaults) lent (j .notRefused) .1 i })
       (j .notRefused) (j .accepted .begun) (got .0 .is) room-first refl between-accepted x
       (e ∙ ap (λ (l : List ℕ). feeds k defaults between l (drop 8 answers)) d))
 
@@ -168,4 +168,4 @@ module _ {k : Setup} {defaults : List ℕ} {port : Port} {statuses : List Status
       _∙_ {A = Left Held}
       (λ i. record { number = 0; consumed = z i; written = 8; held = between; answers = ran .answer ++ drop 8 answers })
       (then-rest (record { number = 0; consumed = 0; written = 0; held = between; answers = drop 8 answers })
-      (sym (no-bytes k defaults (ran .dev) (drop 8 answers) between-accepted) ∙ ap (λ (l : List ℕ). feeds k defaults between l (drop 8 answers)) d))
+      (sym (no-bytes k defaults (ran .state) (drop 8 answers) between-accepted) ∙ ap (λ (l : List ℕ). feeds k defaults between l (drop 8 answers)) d))

@@ -30,12 +30,12 @@ module _ {S : Type 0} (D : Device S) where
     where
       go : Way D p room b → ((p′ : Bench S) (room′ : ℕ) → AllIn bs (feedOpen D p′ room′ bs)) → AllIn (b ∷ bs) (feedOpen D p room (b ∷ bs))
       go (carries e j w) ih =
-          let i = ih (record { dev = p .dev; carried = p .carried ++ b ∷ []; broken = false }) (room - 0) in
+          let i = ih (record { state = p .state; carried = p .carried ++ b ∷ []; broken = false }) (room - 0) in
           rw w (λ q. omega (arith, i q))
       go (full e j r w) ih = rw w (λ q. absurd (omega arith))
       go (ends e j r w) ih =
-          let x = D .run (p .dev) (p .carried ++ b ∷ []) in
-          let i = ih (record { dev = x .dev; carried = []; broken = false }) (room - length (x .answer)) in
+          let x = D .run (p .state) (p .carried ++ b ∷ []) in
+          let i = ih (record { state = x .state; carried = []; broken = false }) (room - length (x .answer)) in
           rw w (λ q. omega (arith, i q))
       go (unknown e w) ih = rw w (λ q. absurd (omega arith))
 

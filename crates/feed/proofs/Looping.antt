@@ -112,7 +112,7 @@ module _ {k : Setup} {defaults : List ℕ} {carried : List ℕ} {len : ℕ} {inp
         long = v .long;
         inv = rw (y .answer)
             (turns (bench k defaults) (Good k defaults s₀) (good-keeps k defaults s₀) s₀ (take len carried) input room answers present at w (v .inv) size (t .got)
-            (record { dev = state dev′ statuses′ live′ cells′; answer = answer })
+            (record { state = state dev′ statuses′ live′ cells′; answer = answer })
             (ran-bytes k defaults present (state dev′ statuses′ live′ cells′) answer r (pad longest (take size rest)) (t .got .whole) (d ∙ z) (ap (pad longest) (sym (got-bytes rest size (t .got)))) (y .state) refl)
             (t .space));
       }

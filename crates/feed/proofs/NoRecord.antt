@@ -81,4 +81,4 @@ module _ (setup : Setup) (defaults : List ℕ) (h : Held) (input room : List ℕ
     fresh-feeds =
         let z : carriedOf (h .port) ≡ carriedOf (opened (h .port .dev)) = ap (λ (n : ℕ). take n (h .port .carried)) none in
         sym (same-view (bench setup defaults) h fresh input room e fresh-accepted
-        (λ i. record { dev = stateOf h; carried = z i; broken = goes-on (bench setup defaults) h e .1 i }))
+        (λ i. record { state = stateOf h; carried = z i; broken = goes-on (bench setup defaults) h e .1 i }))

@@ -28,10 +28,10 @@ use Rattle.records.specs.Device.{inBytes, device}
 -- the state after a record, and its answer's bytes, are what the device makes of the record's bytes
 pub ran-bytes : (k : Setup) (defaults : List ℕ) (s t : State) (a : List ℕ) (r : Record) (bytes whole : List ℕ) → r ≡ decode bytes → bytes ≡ pad longest whole
     → t ≡ run k defaults s r .after → a ≡ answerBytes (run k defaults s r .reply)
-    → _≡_ {A = RanBytes State} (record { dev = t; answer = a }) (device k defaults .run s whole)
+    → _≡_ {A = RanBytes State} (record { state = t; answer = a }) (device k defaults .run s whole)
 unfolding inBytes
 ran-bytes k defaults s t a r bytes whole d b e f =
-    _∙_ {A = RanBytes State} (λ i. record { dev = e i; answer = f i }) (ap (λ (x : Record). inBytes (run k defaults s x)) (d ∙ ap decode b))
+    _∙_ {A = RanBytes State} (λ i. record { state = e i; answer = f i }) (ap (λ (x : Record). inBytes (run k defaults s x)) (d ∙ ap decode b))
 
 -- ---- a record runs, part by part, as code runs it
 module _ (k : Setup) (defaults : List ℕ) (dev : Dev) (statuses : List Status) (live cells : List ℕ) (r : Record) where

@@ -194,28 +194,28 @@ Does P (does t tally dataWord) = P t × (tally ≡ noTally) × (dataWord ≡ 0)
 -- what link up leaves
 pub record LinkedUp (setup : Setup) (s t : State) : Type 0 where
   -- the link is up and a DRS is owed; slot i is Pending until c + its own DL Up Time
-  pub link : t .dev .link ≡ true
-  pub owed : t .dev .owed ≡ true
-  pub slots : (i : ℕ) → i < setup .slots → statusAt (t .statuses) i ≡ pending cause.LinkUp (at (s .dev .clock .0 + nanosOf (entryOf setup i .«dl_up») .0))
+  pub link : t .port .link ≡ true
+  pub owed : t .port .owed ≡ true
+  pub slots : (i : ℕ) → i < setup .slots → statusAt (t .statuses) i ≡ pending cause.LinkUp (at (s .port .clock .0 + nanosOf (entryOf setup i .«dl_up») .0))
   -- the clock, the port's bits, queue, cells and registers stay
-  pub clock : t .dev .clock ≡ s .dev .clock
-  pub drsReceived : t .dev .«drs_received» ≡ s .dev .«drs_received»
-  pub control : t .dev .control ≡ s .dev .control
-  pub queue : t .dev .queue ≡ s .dev .queue
+  pub clock : t .port .clock ≡ s .port .clock
+  pub drsReceived : t .port .«drs_received» ≡ s .port .«drs_received»
+  pub control : t .port .control ≡ s .port .control
+  pub queue : t .port .queue ≡ s .port .queue
   pub cells : t .cells ≡ s .cells
   pub live : t .live ≡ s .live
 
 -- Link up with the link down, before slots become Ready.
-pub link-up : (setup : Setup) (defaults : List ℕ) (s : State) → s .dev .link ≡ false → s .dev .clock .0 ≤ 1000000000000000000 → setup .slots ≤ length (s .statuses)
+pub link-up : (setup : Setup) (defaults : List ℕ) (s : State) → s .port .link ≡ false → s .port .clock .0 ≤ 1000000000000000000 → setup .slots ≤ length (s .statuses)
     → Does (LinkedUp setup s) (effect setup defaults s kind.LinkUp)
 unfolding effect linkUpEffect
 link-up setup defaults s e c n =
-    either-way (Does (LinkedUp setup s)) (s .dev .link) _ _ (λ up. absurd (true≢false (sym up ∙ e)))
+    either-way (Does (LinkedUp setup s)) (s .port .link) _ _ (λ up. absurd (true≢false (sym up ∙ e)))
     (λ down. (
       record {
         link = refl;
         owed = refl;
-        slots = λ i h. link-up-starts setup (s .dev) (s .statuses) i c h (omega arith);
+        slots = λ i h. link-up-starts setup (s .port) (s .statuses) i c h (omega arith);
         clock = refl;
         drsReceived = refl;
         control = refl;
@@ -229,39 +229,39 @@ link-up setup defaults s e c n =
 
 -- what link down and cold reset leave: link and every slot Down, nothing owed, queue emptied, cells untouched; DRS Received cleared. The clock stays.
 pub record Stopped (setup : Setup) (s t : State) : Type 0 where
-  pub link : t .dev .link ≡ false
-  pub owed : t .dev .owed ≡ false
+  pub link : t .port .link ≡ false
+  pub owed : t .port .owed ≡ false
   pub slots : (i : ℕ) → i < setup .slots → statusAt (t .statuses) i ≡ down
-  pub start : t .dev .queue .start ≡ 0
-  pub depth : t .dev .queue .depth ≡ 0
-  pub drsReceived : t .dev .«drs_received» ≡ false
+  pub start : t .port .queue .start ≡ 0
+  pub depth : t .port .queue .depth ≡ 0
+  pub drsReceived : t .port .«drs_received» ≡ false
   pub cells : t .cells ≡ s .cells
-  pub clock : t .dev .clock ≡ s .dev .clock
+  pub clock : t .port .clock ≡ s .port .clock
 
 -- link down leaves every other bit of the port
 pub record LinkedDown (setup : Setup) (defaults : List ℕ) (s t : State) : Type 0 where
   pub stopped : Stopped setup s t
-  pub control : t .dev .control ≡ s .dev .control
-  pub received : t .dev .queue .received ≡ s .dev .queue .received
-  pub overflow : t .dev .queue .overflow ≡ s .dev .queue .overflow
+  pub control : t .port .control ≡ s .port .control
+  pub received : t .port .queue .received ≡ s .port .queue .received
+  pub overflow : t .port .queue .overflow ≡ s .port .queue .overflow
   pub live : t .live ≡ linkResetAll (slotKind setup) (s .live) defaults
 
 -- cold reset clears all of them, and the live registers equal the defaults
 pub record ColdStarted (setup : Setup) (defaults : List ℕ) (s t : State) : Type 0 where
   pub stopped : Stopped setup s t
-  pub received : t .dev .queue .received ≡ false
-  pub overflow : t .dev .queue .overflow ≡ false
-  pub visibility : t .dev .control .visibility ≡ false
-  pub frsInterrupt : t .dev .control .«frs_interrupt» ≡ false
-  pub signalling : t .dev .control .signalling ≡ 0
+  pub received : t .port .queue .received ≡ false
+  pub overflow : t .port .queue .overflow ≡ false
+  pub visibility : t .port .control .visibility ≡ false
+  pub frsInterrupt : t .port .control .«frs_interrupt» ≡ false
+  pub signalling : t .port .control .signalling ≡ 0
   pub live : t .live ≡ defaults
 
 module _ (setup : Setup) (defaults : List ℕ) (s : State) (n : setup .slots ≤ length (s .statuses)) where
-  all-down : (i : ℕ) → i < setup .slots → statusAt (stoppedByReset setup (s .dev) (s .statuses)) i ≡ down
-  all-down i h = each-at (setup .slots) (statusAfterReset setup (s .dev)) 0 (s .statuses) i (omega arith) (omega arith)
+  all-down : (i : ℕ) → i < setup .slots → statusAt (stoppedByReset setup (s .port) (s .statuses)) i ≡ down
+  all-down i h = each-at (setup .slots) (statusAfterReset setup (s .port)) 0 (s .statuses) i (omega arith) (omega arith)
 
   -- Link down with the link up.
-  pub link-down : s .dev .link ≡ true → Does (LinkedDown setup defaults s) (effect setup defaults s kind.LinkDown)
+  pub link-down : s .port .link ≡ true → Does (LinkedDown setup defaults s) (effect setup defaults s kind.LinkDown)
   unfolding effect linkDownEffect afterLinkDown afterReset
   link-down e =
       rw e (

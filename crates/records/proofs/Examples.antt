@@ -142,7 +142,7 @@ unfolding computed
 unsupported-write = refl
 
 -- when it is over, an FRS with the function's ID and reason 3 arrives
-pub flr-sends-frs : messagesOf (after (resetting 0 (with false false 0)) (Advance (ns 134217728)) .cells) (after (resetting 0 (with false false 0)) (Advance (ns 134217728)) .dev .queue) ≡ 0x00030100 ∷ []
+pub flr-sends-frs : messagesOf (after (resetting 0 (with false false 0)) (Advance (ns 134217728)) .cells) (after (resetting 0 (with false false 0)) (Advance (ns 134217728)) .port .queue) ≡ 0x00030100 ∷ []
 unfolding computed
 flr-sends-frs = refl
 
@@ -284,7 +284,7 @@ busy =
     (pending cause.LinkUp (ns 1010) ∷ []) (live 0) (7 ∷ 0x00030100 ∷ [])
 
 -- link down: link and slot Down, nothing owed, queue emptied and cells untouched; DRS Received is cleared, Received and Overflow stay; the clock stays
-pub link-down-port : after busy LinkDown .dev
+pub link-down-port : after busy LinkDown .port
     ≡ record { clock = ns 1000; link = false; owed = false; «drs_received» = false; control = with true true 2; queue = record { start = 0; depth = 0; received = true; overflow = true } }
 unfolding computed
 link-down-port = refl
@@ -298,7 +298,7 @@ unfolding computed
 link-down-cells = refl
 
 -- cold reset: the same, all port bits are cleared, and the clock stays
-pub cold-reset-port : after busy ColdReset .dev
+pub cold-reset-port : after busy ColdReset .port
     ≡ record { clock = ns 1000; link = false; owed = false; «drs_received» = false; control = with false false 0; queue = record { start = 0; depth = 0; received = false; overflow = false } }
 unfolding computed
 cold-reset-port = refl
@@ -345,7 +345,7 @@ unfolding computed
 first-queued = refl
 
 -- of two the first stays
-pub first-stays : messagesOf (second .cells) (second .dev .queue) ≡ 0x00030101 ∷ []
+pub first-stays : messagesOf (second .cells) (second .port .queue) ≡ 0x00030101 ∷ []
 unfolding computed
 first-stays = refl
 
@@ -355,12 +355,12 @@ unfolding computed
 second-dropped = refl
 
 -- Received isn't set on a drop
-pub drop-not-received : after (after first (ClearBits 1)) (Message (Frs 0x0102 2)) .dev .queue .received ≡ false
+pub drop-not-received : after (after first (ClearBits 1)) (Message (Frs 0x0102 2)) .port .queue .received ≡ false
 unfolding computed
 drop-not-received = refl
 
 -- Received stays after removal
-pub received-stays : after first RemoveOldest .dev .queue ≡ record { start = 0; depth = 0; received = true; overflow = false }
+pub received-stays : after first RemoveOldest .port .queue ≡ record { start = 0; depth = 0; received = true; overflow = false }
 unfolding computed
 received-stays = refl
 
@@ -370,7 +370,7 @@ unfolding computed
 queue-register = refl
 
 -- a DRS by message sets DRS Received, and "owed" stays
-pub drs-message-owed : after (after (linkDown (with false false 1)) LinkUp) (Message (Drs 0)) .dev .owed ≡ true
+pub drs-message-owed : after (after (linkDown (with false false 1)) LinkUp) (Message (Drs 0)) .port .owed ≡ true
 unfolding computed
 drs-message-owed = refl
 
@@ -386,7 +386,7 @@ unfolding computed
 clear-some = refl
 
 -- bit 0 CRS visibility, bit 1 FRS interrupt, bits 3:2 signalling
-pub control-bits : after (settled (with true true 0)) (Control 0x0A) .dev .control ≡ with false true 2
+pub control-bits : after (settled (with true true 0)) (Control 0x0A) .port .control ≡ with false true 2
 unfolding computed
 control-bits = refl
 
@@ -442,7 +442,7 @@ unlike =
       «port_id» = 0x0008;
     }
 
-pub link-up-own-times : run unlike [] (state (after (settled (with false false 0)) LinkDown .dev) (down ∷ down ∷ []) [] (0 ∷ [])) LinkUp .after .statuses
+pub link-up-own-times : run unlike [] (state (after (settled (with false false 0)) LinkDown .port) (down ∷ down ∷ []) [] (0 ∷ [])) LinkUp .after .statuses
     ≡ pending cause.LinkUp (ns 1010) ∷ pending cause.LinkUp (ns 2024) ∷ []
 unfolding computed
 link-up-own-times = refl

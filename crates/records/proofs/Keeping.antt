@@ -98,20 +98,20 @@ module _ (setup : Setup) (good : SoundSetup setup) (defaults : List ℕ) (s : St
   EffectKeeps (refused c v) = Unit {0}
   EffectKeeps (does t tally v) = Settling setup defaults s t
 
-  ring : SoundRing (s .cells) (s .dev .queue)
-  ring = record { start = h .start; depth = h .depth; values = cells-sound (s .cells) (s .dev .queue) (cell-test h) }
+  ring : SoundRing (s .cells) (s .port .queue)
+  ring = record { start = h .start; depth = h .depth; values = cells-sound (s .cells) (s .port .queue) (cell-test h) }
 
-  phases-starting : (i : ℕ) → i < setup .slots → Starting (s .dev .clock) (statusAt (s .statuses) i .phase)
-  phases-starting i l = sound-starting (s .dev .clock) (statusAt (s .statuses) i .phase) (phase-test h i l)
+  phases-starting : (i : ℕ) → i < setup .slots → Starting (s .port .clock) (statusAt (s .statuses) i .phase)
+  phases-starting i l = sound-starting (s .port .clock) (statusAt (s .statuses) i .phase) (phase-test h i l)
 
-  link-owed : s .dev .owed ≡ true → s .dev .link ≡ true
+  link-owed : s .port .owed ≡ true → s .port .link ≡ true
   link-owed = h .owedLink
 
   -- ---- the port alone
   record PortKeeps (y : Front) : Type 0 where
-    clock : y .dev .clock ≡ s .dev .clock
-    link : y .dev .link ≡ s .dev .link
-    owed : y .dev .owed ≡ s .dev .owed
+    clock : y .dev .clock ≡ s .port .clock
+    link : y .dev .link ≡ s .port .link
+    owed : y .dev .owed ≡ s .port .owed
     signalling : y .dev .control .signalling ≤ 2
     ring : SoundRing (y .cells) (y .dev .queue)
     cells : length (y .cells) ≡ length (s .cells)
@@ -185,11 +185,11 @@ module _ (setup : Setup) (good : SoundSetup setup) (defaults : List ℕ) (s : St
 
   -- ---- one slot
   record SlotKeeps (y : Seat) : Type 0 where
-    dev : y .dev ≡ s .dev
+    dev : y .dev ≡ s .port
     cells : y .cells ≡ s .cells
     live : length (y .live) ≡ length (s .live)
-    phase : Starting (s .dev .clock) (y .status .phase)
-    link : matchesLink (s .dev .link) (y .status .phase) ≡ true
+    phase : Starting (s .port .clock) (y .status .phase)
+    link : matchesLink (s .port .link) (y .status .phase) ≡ true
 
   abbrev SlotEffectKeeps : Effect Seat → Type 0
   SlotEffectKeeps (refused c v) = Unit {0}
@@ -199,13 +199,13 @@ module _ (setup : Setup) (good : SoundSetup setup) (defaults : List ℕ) (s : St
   slot-settling i l (refused c v) k = tt
   slot-settling i l (does y tally v) k =
       subst (λ (d : Dev). Settling setup defaults s (state d (set (s .statuses) i (y .status)) (y .live) (y .cells))) (sym (k .dev))
-      (subst (λ (c : List ℕ). Settling setup defaults s (state (s .dev) (set (s .statuses) i (y .status)) (y .live) c)) (sym (k .cells))
+      (subst (λ (c : List ℕ). Settling setup defaults s (state (s .port) (set (s .statuses) i (y .status)) (y .live) c)) (sym (k .cells))
       (record {
         clock = h .clock;
         ring = ring;
         signalling = h .signalling;
-        phases = λ j m. set-keeps (λ (v : Status). Starting (s .dev .clock) (v .phase)) (s .statuses) i j (y .status) (k .phase) (phases-starting j m);
-        links = λ j m. set-keeps (λ (v : Status). matchesLink (s .dev .link) (v .phase) ≡ true) (s .statuses) i j (y .status) (k .link) (link-test h j m);
+        phases = λ j m. set-keeps (λ (v : Status). Starting (s .port .clock) (v .phase)) (s .statuses) i j (y .status) (k .phase) (phases-starting j m);
+        links = λ j m. set-keeps (λ (v : Status). matchesLink (s .port .link) (v .phase) ≡ true) (s .statuses) i j (y .status) (k .link) (link-test h j m);
         owed = link-owed;
         past = λ j m. getD-set-other (s .statuses) i j (y .status) ready (λ e. omega arith) ∙ fits .past j m;
         cells = refl;
@@ -215,22 +215,22 @@ module _ (setup : Setup) (good : SoundSetup setup) (defaults : List ℕ) (s : St
 
   module _ (i : ℕ) (l : i < setup .slots) where
     -- a slot whose registers change, but not their number
-    words-keep : (live : List ℕ) → length live ≡ length (s .live) → SlotKeeps (record { dev = s .dev; status = statusAt (s .statuses) i; live = live; cells = s .cells })
+    words-keep : (live : List ℕ) → length live ≡ length (s .live) → SlotKeeps (record { dev = s .port; status = statusAt (s .statuses) i; live = live; cells = s .cells })
     words-keep live e = record { dev = refl; cells = refl; live = e; phase = phases-starting i l; link = link-test h i l }
 
-    link-up : statusAt (s .statuses) i ≡ ready → s .dev .link ≡ true
-    link-up e = sym (ap (λ (v : Status). matchesLink (s .dev .link) (v .phase)) e) ∙ link-test h i l
+    link-up : statusAt (s .statuses) i ≡ ready → s .port .link ≡ true
+    link-up e = sym (ap (λ (v : Status). matchesLink (s .port .link) (v .phase)) e) ∙ link-test h i l
 
     read-keeps : (q : Request) → SlotEffectKeeps (readEffect (setup .slots) (slotKind setup i) q (seatOf s i))
     unfolding readEffect
     read-keeps q =
-        either-way SlotEffectKeeps (isAccess (routeOf (setup .slots) (slotKind setup i) (s .dev) (statusAt (s .statuses) i) true q)) _ _ (λ e. words-keep (s .live) refl) (λ e. tt)
+        either-way SlotEffectKeeps (isAccess (routeOf (setup .slots) (slotKind setup i) (s .port) (statusAt (s .statuses) i) true q)) _ _ (λ e. words-keep (s .live) refl) (λ e. tt)
 
     write-keeps : (q : Request) (value : ℕ) → SlotEffectKeeps (writeEffect (setup .slots) (slotKind setup i) (entryOf setup i) defaults q value (seatOf s i))
     unfolding writeEffect afterFlr afterD3hot startedByFlr startedByD3hot
     write-keeps q value =
-        either-way SlotEffectKeeps (isAccess (routeOf (setup .slots) (slotKind setup i) (s .dev) (statusAt (s .statuses) i) false q)) _ _
-        (λ e. done (link-up (access-ready (setup .slots) (slotKind setup i) (s .dev) (statusAt (s .statuses) i) false q e))) (λ e. tt)
+        either-way SlotEffectKeeps (isAccess (routeOf (setup .slots) (slotKind setup i) (s .port) (statusAt (s .statuses) i) false q)) _ _
+        (λ e. done (link-up (access-ready (setup .slots) (slotKind setup i) (s .port) (statusAt (s .statuses) i) false q e))) (λ e. tt)
       where
         kind : Kind
         kind = slotKind setup i
@@ -244,14 +244,14 @@ module _ (setup : Setup) (good : SoundSetup setup) (defaults : List ℕ) (s : St
         words : length (w .live) ≡ length (s .live)
         words = length-set (s .live) _ new
 
-        done : s .dev .link ≡ true → SlotKeeps (writeSeat kind (entryOf setup i) defaults q value (seatOf s i))
+        done : s .port .link ≡ true → SlotKeeps (writeSeat kind (entryOf setup i) defaults q value (seatOf s i))
         done up =
             write-cases SlotKeeps kind (entryOf setup i) defaults q value (seatOf s i)
             (record {
               dev = refl;
               cells = refl;
               live = flr-reset-slot-length kind (q .slot) (w .live) defaults ∙ words;
-              phase = flr-starting (s .dev .clock) (entryOf setup i) (h .clock) (good .codes i l .flr);
+              phase = flr-starting (s .port .clock) (entryOf setup i) (h .clock) (good .codes i l .flr);
               link = up;
             })
             (record {
@@ -259,7 +259,7 @@ module _ (setup : Setup) (good : SoundSetup setup) (defaults : List ℕ) (s : St
               cells = refl;
               live = either-way (λ (m : List ℕ). length m ≡ length (s .live)) (bit new 3) (w .live) (linkResetSlot kind (q .slot) (w .live) defaults)
                   (λ e. words) (λ e. link-reset-slot-length kind (q .slot) (w .live) defaults ∙ words);
-              phase = d3hot-starting (s .dev .clock) (entryOf setup i) (h .clock) (good .codes i l .d3hot);
+              phase = d3hot-starting (s .port .clock) (entryOf setup i) (h .clock) (good .codes i l .d3hot);
               link = up;
             })
             (words-keep (w .live) words)
@@ -283,14 +283,14 @@ module _ (setup : Setup) (good : SoundSetup setup) (defaults : List ℕ) (s : St
   advance-keeps : (by : Nanos) → EffectKeeps (advanceEffect by s)
   unfolding advanceEffect
   advance-keeps by =
-      let t = sumOf (s .dev .clock) by in
+      let t = sumOf (s .port .clock) by in
       either-way EffectKeeps (leb (t .0) clockEnd) _ _
       (λ e.
       record {
         clock = leb-true (t .0) clockEnd e;
         ring = ring;
         signalling = h .signalling;
-        phases = λ i l. starting-later (s .dev .clock) t (sum-later (s .dev .clock) by (let c = h .clock in omega arith)) (statusAt (s .statuses) i .phase) (phases-starting i l);
+        phases = λ i l. starting-later (s .port .clock) t (sum-later (s .port .clock) by (let c = h .clock in omega arith)) (statusAt (s .statuses) i .phase) (phases-starting i l);
         links = link-test h;
         owed = link-owed;
         past = fits .past;
@@ -313,13 +313,13 @@ module _ (setup : Setup) (good : SoundSetup setup) (defaults : List ℕ) (s : St
   link-up-keeps : EffectKeeps (linkUpEffect setup s)
   unfolding linkUpEffect readyAfterLinkUp
   link-up-keeps =
-      either-way EffectKeeps (s .dev .link) _ _ (λ e. tt)
+      either-way EffectKeeps (s .port .link) _ _ (λ e. tt)
       (λ e.
       record {
         clock = h .clock;
         ring = ring;
         signalling = h .signalling;
-        phases = all-anew starts (λ (v : Status). Starting (s .dev .clock) (v .phase)) (λ i l. up i l);
+        phases = all-anew starts (λ (v : Status). Starting (s .port .clock) (v .phase)) (λ i l. up i l);
         links = all-anew starts (λ (v : Status). matchesLink true (v .phase) ≡ true) (λ i l. refl);
         owed = λ o. refl;
         past = past-anew starts;
@@ -329,13 +329,13 @@ module _ (setup : Setup) (good : SoundSetup setup) (defaults : List ℕ) (s : St
       })
     where
       starts : ℕ → Status
-      starts i = pending cause.LinkUp (readyAfterLinkUp setup (s .dev) i)
+      starts i = pending cause.LinkUp (readyAfterLinkUp setup (s .port) i)
 
-      up : (i : ℕ) → i < setup .slots → Starting (s .dev .clock) (starts i .phase)
+      up : (i : ℕ) → i < setup .slots → Starting (s .port .clock) (starts i .phase)
       up i l =
           let c = entryOf setup i .«dl_up» in
           let clock = h .clock in
-          let time = sum-code (s .dev .clock) c (omega arith) in
+          let time = sum-code (s .port .clock) c (omega arith) in
           let most = allowed-most c (good .codes i l .dlUp) in
           (omega arith, refl)
 
@@ -345,19 +345,19 @@ module _ (setup : Setup) (good : SoundSetup setup) (defaults : List ℕ) (s : St
   link-down-keeps : EffectKeeps (linkDownEffect setup defaults s)
   unfolding linkDownEffect afterLinkDown afterReset
   link-down-keeps =
-      either-way EffectKeeps (s .dev .link) _ _
+      either-way EffectKeeps (s .port .link) _ _
       (λ e.
       record {
         clock = h .clock;
         ring = empty-sound (s .cells) _ some-cells refl refl;
         signalling = h .signalling;
-        phases = all-anew (statusAfterReset setup (s .dev)) (λ (v : Status). Starting (s .dev .clock) (v .phase)) (λ i l. tt);
-        links = all-anew (statusAfterReset setup (s .dev)) (λ (v : Status). matchesLink false (v .phase) ≡ true) (λ i l. refl);
+        phases = all-anew (statusAfterReset setup (s .port)) (λ (v : Status). Starting (s .port .clock) (v .phase)) (λ i l. tt);
+        links = all-anew (statusAfterReset setup (s .port)) (λ (v : Status). matchesLink false (v .phase) ≡ true) (λ i l. refl);
         owed = λ o. absurd (false≢true o);
-        past = past-anew (statusAfterReset setup (s .dev));
+        past = past-anew (statusAfterReset setup (s .port));
         cells = refl;
         live = link-reset-all-length (slotKind setup) (s .live) defaults;
-        statuses = length-each (setup .slots) (statusAfterReset setup (s .dev)) 0 (s .statuses);
+        statuses = length-each (setup .slots) (statusAfterReset setup (s .port)) 0 (s .statuses);
       })
       (λ e. tt)
 
@@ -368,13 +368,13 @@ module _ (setup : Setup) (good : SoundSetup setup) (defaults : List ℕ) (s : St
         clock = h .clock;
         ring = empty-sound (s .cells) _ some-cells refl refl;
         signalling = omega arith;
-        phases = all-anew (statusAfterReset setup (s .dev)) (λ (v : Status). Starting (s .dev .clock) (v .phase)) (λ i l. tt);
-        links = all-anew (statusAfterReset setup (s .dev)) (λ (v : Status). matchesLink false (v .phase) ≡ true) (λ i l. refl);
+        phases = all-anew (statusAfterReset setup (s .port)) (λ (v : Status). Starting (s .port .clock) (v .phase)) (λ i l. tt);
+        links = all-anew (statusAfterReset setup (s .port)) (λ (v : Status). matchesLink false (v .phase) ≡ true) (λ i l. refl);
         owed = λ o. absurd (false≢true o);
-        past = past-anew (statusAfterReset setup (s .dev));
+        past = past-anew (statusAfterReset setup (s .port));
         cells = refl;
         live = ap length (cold-reset-defaults (s .live) defaults (fits .words ∙ sym (fits .defaultWords))) ∙ fits .defaultWords ∙ sym (fits .words);
-        statuses = length-each (setup .slots) (statusAfterReset setup (s .dev)) 0 (s .statuses);
+        statuses = length-each (setup .slots) (statusAfterReset setup (s .port)) 0 (s .statuses);
       }
 
   -- ---- every record
@@ -388,17 +388,17 @@ module _ (setup : Setup) (good : SoundSetup setup) (defaults : List ℕ) (s : St
       (no-slot-write (setup .slots) (slotKind setup (q .slot)) (seatOf s (q .slot)) (entryOf setup (q .slot)) defaults q value)
   effect-keeps (HardwareSet slot word mask) k =
       at-slot-keeps slot _ (λ l. set-keeps-slot slot l slot word mask) (no-slot-set (setup .slots) (slotKind setup slot) (seatOf s slot) slot word mask)
-  effect-keeps (MessageRecord m) k = port-settling (messageEffect (setup .«port_id») m (frontOf s)) (either-way PortEffectKeeps (s .dev .link) _ _ (λ e. message-keeps m k) (λ e. tt))
+  effect-keeps (MessageRecord m) k = port-settling (messageEffect (setup .«port_id») m (frontOf s)) (either-way PortEffectKeeps (s .port .link) _ _ (λ e. message-keeps m k) (λ e. tt))
   effect-keeps LinkUp k = link-up-keeps
   effect-keeps LinkDown k = link-down-keeps
   effect-keeps ColdReset k = cold-reset-keeps
   effect-keeps ReadQueue k = port-settling (readQueueEffect (frontOf s)) port-same
   effect-keeps RemoveOldest k =
       port-settling (removeEffect (frontOf s))
-      (record { clock = refl; link = refl; owed = refl; signalling = h .signalling; ring = removed-keeps (s .cells) (s .dev .queue) ring; cells = refl })
+      (record { clock = refl; link = refl; owed = refl; signalling = h .signalling; ring = removed-keeps (s .cells) (s .port .queue) ring; cells = refl })
   effect-keeps (ClearBits mask) k =
       port-settling (clearEffect mask (frontOf s))
-      (record { clock = refl; link = refl; owed = refl; signalling = h .signalling; ring = record { start = h .start; depth = h .depth; values = cells-sound (s .cells) (clearedDev mask (s .dev) .queue) (cell-test h) }; cells = refl })
+      (record { clock = refl; link = refl; owed = refl; signalling = h .signalling; ring = record { start = h .start; depth = h .depth; values = cells-sound (s .cells) (clearedDev mask (s .port) .queue) (cell-test h) }; cells = refl })
   effect-keeps (Control b) k = port-settling (controlEffect b (frontOf s)) (control-keeps b)
   effect-keeps ReadBits k = port-settling (readBitsEffect (frontOf s)) port-same
   effect-keeps NoKind k = port-settling (does (frontOf s) noTally 0) port-same
@@ -416,7 +416,7 @@ module _ (setup : Setup) (good : SoundSetup setup) (defaults : List ℕ) (s : St
   -- ---- what arrives
   own-sound : (r : Record) → SoundRecord r → AllSoundFrs (ofRecord setup s r)
   own-sound (MessageRecord NotReadiness) k = tt
-  own-sound (MessageRecord (Drs id)) k = drs-sound (setup .«port_id») (s .dev) (good .portId)
+  own-sound (MessageRecord (Drs id)) k = drs-sound (setup .«port_id») (s .port) (good .portId)
   own-sound (MessageRecord (Frs id reason)) k = (k, tt)
   own-sound (Advance by) k = tt
   own-sound (Read q) k = tt

@@ -103,7 +103,7 @@ isAdvance ReadBits = false
 isAdvance NoKind = false
 
 abbrev SameClock : State → Record → State → Tally → ℕ → Type 0
-SameClock s r t tally d = isAdvance r ≡ false → t .dev .clock ≡ s .dev .clock
+SameClock s r t tally d = isAdvance r ≡ false → t .port .clock ≡ s .port .clock
 
 -- a write changes no part of the root port, and no queue cell
 pub write-dev : (kind : Kind) (entry : Slot) (defaults : List ℕ) (q : Request) (value : ℕ) (z : Seat) → writeSeat kind entry defaults q value z .dev ≡ z .dev
@@ -141,30 +141,30 @@ same-clock setup defaults s =
       noKind = λ n. refl;
     }
 
-answered-clock : (setup : Setup) (s : State) (r : Record) (e : Effect State) → isAdvance r ≡ false → Leaves (SameClock s r) e → answered setup s e .after .dev .clock ≡ s .dev .clock
+answered-clock : (setup : Setup) (s : State) (r : Record) (e : Effect State) → isAdvance r ≡ false → Leaves (SameClock s r) e → answered setup s e .after .port .clock ≡ s .port .clock
 unfolding answered
 answered-clock setup s r (refused completion dataWord) n h = refl
 answered-clock setup s r (does t tally dataWord) n h = settled-kept setup (sceneOf t tally) .clock ∙ h n
 
 -- The clock moves only by a record 01.
-pub clock-stays : (setup : Setup) (defaults : List ℕ) (s : State) (r : Record) → isAdvance r ≡ false → run setup defaults s r .after .dev .clock ≡ s .dev .clock
+pub clock-stays : (setup : Setup) (defaults : List ℕ) (s : State) (r : Record) → isAdvance r ≡ false → run setup defaults s r .after .port .clock ≡ s .port .clock
 unfolding run
 clock-stays setup defaults s r n = answered-clock setup s r (effect setup defaults s r) n (every (SameClock s) setup defaults s (same-clock setup defaults s) r)
 
 -- an advance that stays within 10^15
-advance-effect : (by : Nanos) (s : State) → s .dev .clock .0 + by .0 ≤ clockEnd → advanceEffect by s ≡ does (advancedBy by s) noTally 0
+advance-effect : (by : Nanos) (s : State) → s .port .clock .0 + by .0 ≤ clockEnd → advanceEffect by s ≡ does (advancedBy by s) noTally 0
 unfolding advanceEffect sumOf
 advance-effect by s h =
     ap (λ (b : Bool). cond b (does (advancedBy by s) noTally 0) (refused completion.ClockEnd 0))
-    (ap (λ (b : Bool). leb (cond b (s .dev .clock .0 + by .0) greatestNanos) clockEnd) (le-leb (s .dev .clock .0 + by .0) greatestNanos (omega arith))
-    ∙ le-leb (s .dev .clock .0 + by .0) clockEnd h)
+    (ap (λ (b : Bool). leb (cond b (s .port .clock .0 + by .0) greatestNanos) clockEnd) (le-leb (s .port .clock .0 + by .0) greatestNanos (omega arith))
+    ∙ le-leb (s .port .clock .0 + by .0) clockEnd h)
 
 -- what a record leaves where slots became Ready
 abbrev ranTo : Scene → (live : List ℕ) → Ran State
 ranTo x live = record { after = withLive x live; reply = reply completion.Done (x .root .tally) 0 }
 
 -- an advance that stays within 10^15 is done: the clock advances, and what becomes Ready on the way happens at its moment
-pub advance-runs : (setup : Setup) (defaults : List ℕ) (s : State) (by : Nanos) → s .dev .clock .0 + by .0 ≤ clockEnd
+pub advance-runs : (setup : Setup) (defaults : List ℕ) (s : State) (by : Nanos) → s .port .clock .0 + by .0 ≤ clockEnd
     → run setup defaults s (Advance by) ≡ ranTo (advances setup by (sceneOf s noTally)) (s .live)
 unfolding run effect answered advances
 advance-runs setup defaults s by h = ap (answered setup s) (advance-effect by s h)
@@ -178,20 +178,20 @@ unfolding advances
 advances-clock setup by x = settled-kept setup _ .clock
 
 -- An advance that is done adds just its nanoseconds to the clock.
-pub advance-adds : (setup : Setup) (defaults : List ℕ) (s : State) (by : Nanos) → s .dev .clock .0 + by .0 ≤ clockEnd
-    → run setup defaults s (Advance by) .after .dev .clock .0 ≡ s .dev .clock .0 + by .0
+pub advance-adds : (setup : Setup) (defaults : List ℕ) (s : State) (by : Nanos) → s .port .clock .0 + by .0 ≤ clockEnd
+    → run setup defaults s (Advance by) .after .port .clock .0 ≡ s .port .clock .0 + by .0
 advance-adds setup defaults s by h =
-    ap (λ (x : Ran State). x .after .dev .clock .0) (advance-runs setup defaults s by h)
-    ∙ ap (λ (t : Nanos). t .0) (advances-clock setup by (sceneOf s noTally)) ∙ plain-sum (s .dev .clock) by h
+    ap (λ (x : Ran State). x .after .port .clock .0) (advance-runs setup defaults s by h)
+    ∙ ap (λ (t : Nanos). t .0) (advances-clock setup by (sceneOf s noTally)) ∙ plain-sum (s .port .clock) by h
 
 -- One that would pass 10^15 is answered 22.
-pub advance-refused : (setup : Setup) (defaults : List ℕ) (s : State) (by : Nanos) → clockEnd < s .dev .clock .0 + by .0
+pub advance-refused : (setup : Setup) (defaults : List ℕ) (s : State) (by : Nanos) → clockEnd < s .port .clock .0 + by .0
     → run setup defaults s (Advance by) ≡ record { after = s; reply = reply completion.ClockEnd noTally 0 }
 unfolding run effect answered advanceEffect sumOf
 advance-refused setup defaults s by h =
     ap (λ (b : Bool). answered setup s (cond b (does (advancedBy by s) noTally 0) (refused completion.ClockEnd 0)))
-    (either-way (λ (n : ℕ). leb n clockEnd ≡ false) (leb (s .dev .clock .0 + by .0) greatestNanos) (s .dev .clock .0 + by .0) greatestNanos
-    (λ e. lt-leb (s .dev .clock .0 + by .0) clockEnd h) (λ e. lt-leb greatestNanos clockEnd (omega arith)))
+    (either-way (λ (n : ℕ). leb n clockEnd ≡ false) (leb (s .port .clock .0 + by .0) greatestNanos) (s .port .clock .0 + by .0) greatestNanos
+    (λ e. lt-leb (s .port .clock .0 + by .0) clockEnd h) (λ e. lt-leb greatestNanos clockEnd (omega arith)))
 
 -- ---- two advances
 
@@ -228,13 +228,13 @@ two-scenes setup a b s h =
     }
 
 -- Two records 01 in a row, by a and then by b, are one by a + b, where that stays within 10^15.
-pub two-advances-are-one : (setup : Setup) (defaults : List ℕ) (s : State) (a b : Nanos) → length (s .statuses) ≤ 32 → s .dev .clock .0 + a .0 + b .0 ≤ clockEnd
+pub two-advances-are-one : (setup : Setup) (defaults : List ℕ) (s : State) (a b : Nanos) → length (s .statuses) ≤ 32 → s .port .clock .0 + a .0 + b .0 ≤ clockEnd
     → TwoAreOne (run setup defaults s (Advance (together a b))) (run setup defaults s (Advance a)) (run setup defaults (run setup defaults s (Advance a) .after) (Advance b))
 two-advances-are-one setup defaults s a b few h =
     let first = advances setup a (sceneOf s noTally) in
     let u : run setup defaults s (Advance a) ≡ ranTo first (s .live) = advance-runs setup defaults s a (omega arith) in
-    let clock : first .root .dev .clock .0 ≡ s .dev .clock .0 + a .0 =
-    ap (λ (t : Nanos). t .0) (advances-clock setup a (sceneOf s noTally)) ∙ plain-sum (s .dev .clock) a (omega arith) in
+    let clock : first .root .dev .clock .0 ≡ s .port .clock .0 + a .0 =
+    ap (λ (t : Nanos). t .0) (advances-clock setup a (sceneOf s noTally)) ∙ plain-sum (s .port .clock) a (omega arith) in
     let v : run setup defaults (withLive first (s .live)) (Advance b) ≡ ranTo (advances setup b (fresh first)) (s .live) =
     advance-runs setup defaults (withLive first (s .live)) b (omega arith) in
     rw (u, v, advance-runs setup defaults s (together a b) (omega arith)) (two-scenes setup a b s few)
@@ -281,7 +281,7 @@ pub record SameSlot (s t : State) (slot : ℕ) : Type 0 where
 
 -- the same, where the clock is the same
 record Left (s t : State) (slot : ℕ) : Type 0 where
-  clock : t .dev .clock ≡ s .dev .clock
+  clock : t .port .clock ≡ s .port .clock
   same : SameSlot s t slot
 
 abbrev OthersLeft : (slot : ℕ) → State → Record → State → Tally → ℕ → Type 0
@@ -335,7 +335,7 @@ others-left setup defaults s slot =
           record {
             clock = ap (λ (d : Dev). d .clock) (write-dev kind entry defaults q value (seatOf s (q .slot)));
             same = record {
-              registers = λ word h. write-live kind entry defaults q value (seatOf s (q .slot)) slot word m h (access-facts (setup .slots) (slotKind setup (q .slot)) (s .dev) (statusAt (s .statuses) (q .slot)) false q e .0 .word);
+              registers = λ word h. write-live kind entry defaults q value (seatOf s (q .slot)) slot word m h (access-facts (setup .slots) (slotKind setup (q .slot)) (s .port) (statusAt (s .statuses) (q .slot)) false q e .0 .word);
               status = getD-set-other (s .statuses) (q .slot) slot _ ready m;
             };
           };
@@ -377,7 +377,7 @@ later-stays clock phase.Ready e = refl
 later-stays clock (phase.Pending c t) e = ap (λ (b : Bool). cond b phase.Ready (phase.Pending c t)) (lt-leb (t .0) (clock .0) (sound-later clock c t e))
 
 answered-others : (setup : Setup) (s : State) (slot : ℕ) (r : Record) (addressed : ℕ) (e : Effect State)
-    → Leaves (OthersLeft slot s r) e → Addresses r addressed → slot ≢ addressed → soundPhase (s .dev .clock) (statusAt (s .statuses) slot .phase) ≡ true
+    → Leaves (OthersLeft slot s r) e → Addresses r addressed → slot ≢ addressed → soundPhase (s .port .clock) (statusAt (s .statuses) slot .phase) ≡ true
     → SameSlot s (answered setup s e .after) slot
 unfolding answered
 answered-others setup s slot r addressed (refused c d) h a n sound = record { registers = λ word l. refl; status = refl }
@@ -386,10 +386,10 @@ answered-others setup s slot r addressed (does t tally d) h a n sound =
     record {
       registers = left .same .registers;
       status =
-          ap (λ (l : List Status). statusAt l slot) (settled-statuses setup (sceneOf t tally)) ∙ ready-by-at (t .dev .clock) (t .statuses) slot
+          ap (λ (l : List Status). statusAt l slot) (settled-statuses setup (sceneOf t tally)) ∙ ready-by-at (t .port .clock) (t .statuses) slot
           ∙ ap (λ (c : Nanos). record { phase = phaseBy c (statusAt (t .statuses) slot .phase) }) (left .clock)
-          ∙ ap (λ (x : Status). record { phase = phaseBy (s .dev .clock) (x .phase) }) (left .same .status)
-          ∙ ap (λ (p : Phase). record { phase = p }) (later-stays (s .dev .clock) (statusAt (s .statuses) slot .phase) sound);
+          ∙ ap (λ (x : Status). record { phase = phaseBy (s .port .clock) (x .phase) }) (left .same .status)
+          ∙ ap (λ (p : Phase). record { phase = p }) (later-stays (s .port .clock) (statusAt (s .statuses) slot .phase) sound);
     }
 
 -- A slot other than the one addressed keeps its registers and its status under 02, 03 and 0C.

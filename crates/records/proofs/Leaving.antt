@@ -49,10 +49,10 @@ withRoot x s = state (x .dev) (s .statuses) (s .live) (x .cells)
 
 -- the route of a request
 abbrev pub routed : Setup → State → (isRead : Bool) → Request → Route
-routed setup s isRead q = routeOf (setup .slots) (slotKind setup (q .slot)) (s .dev) (seatOf s (q .slot) .status) isRead q
+routed setup s isRead q = routeOf (setup .slots) (slotKind setup (q .slot)) (s .port) (seatOf s (q .slot) .status) isRead q
 
 abbrev pub advancedBy : Nanos → State → State
-advancedBy by s = withDev (withClock (s .dev) (sumOf (s .dev .clock) by)) s
+advancedBy by s = withDev (withClock (s .port) (sumOf (s .port .clock) by)) s
 
 abbrev pub wordRead : Setup → State → Request → ℕ
 wordRead setup s q = readWord (slotKind setup (q .slot)) (q .word) (wordAt (s .live) (q .slot) (q .word)) (q .enables)
@@ -62,35 +62,35 @@ seatWritten setup defaults s q value = writeSeat (slotKind setup (q .slot)) (ent
 
 abbrev pub wordSet : Setup → State → (slot word mask : ℕ) → State
 wordSet setup s slot word mask =
-    state (s .dev) (s .statuses) (set (s .live) (wordPlace slot word) (hardwareSet (slotKind setup slot) word (wordAt (s .live) slot word) mask)) (s .cells)
+    state (s .port) (s .statuses) (set (s .live) (wordPlace slot word) (hardwareSet (slotKind setup slot) word (wordAt (s .live) slot word) mask)) (s .cells)
 
 abbrev pub linkedUp : Setup → State → State
-linkedUp setup s = state (afterLinkUp (s .dev)) (startedByLinkUp setup (s .dev) (s .statuses)) (s .live) (s .cells)
+linkedUp setup s = state (afterLinkUp (s .port)) (startedByLinkUp setup (s .port) (s .statuses)) (s .live) (s .cells)
 
 abbrev pub linkedDown : Setup → (defaults : List ℕ) → State → State
-linkedDown setup defaults s = state (afterLinkDown (s .dev)) (stoppedByReset setup (s .dev) (s .statuses)) (linkResetAll (slotKind setup) (s .live) defaults) (s .cells)
+linkedDown setup defaults s = state (afterLinkDown (s .port)) (stoppedByReset setup (s .port) (s .statuses)) (linkResetAll (slotKind setup) (s .live) defaults) (s .cells)
 
 abbrev pub coldStarted : Setup → (defaults : List ℕ) → State → State
-coldStarted setup defaults s = state (afterColdReset (s .dev)) (stoppedByReset setup (s .dev) (s .statuses)) (coldReset (s .live) defaults) (s .cells)
+coldStarted setup defaults s = state (afterColdReset (s .port)) (stoppedByReset setup (s .port) (s .statuses)) (coldReset (s .live) defaults) (s .cells)
 
 -- P holds of what each kind of record leaves that is done
 pub record Every (P : Record → State → Tally → ℕ → Type 0) (setup : Setup) (defaults : List ℕ) (s : State) : Type 0 where
-  pub advance : (by : Nanos) → leb (sumOf (s .dev .clock) by .0) clockEnd ≡ true → P (Advance by) (advancedBy by s) noTally 0
+  pub advance : (by : Nanos) → leb (sumOf (s .port .clock) by .0) clockEnd ≡ true → P (Advance by) (advancedBy by s) noTally 0
   pub read : (q : Request) → isAccess (routed setup s true q) ≡ true → P (Read q) s noTally (wordRead setup s q)
   pub write : (q : Request) (value : ℕ) → isAccess (routed setup s false q) ≡ true → P (Write q value) (putBack s (q .slot) (seatWritten setup defaults s q value)) noTally 0
-  pub drs : (id : ℕ) → s .dev .link ≡ true
+  pub drs : (id : ℕ) → s .port .link ≡ true
       → (let x = drsArrives (setup .«port_id») (rootOf s noTally) in P (MessageRecord (Drs id)) (withRoot x s) (x .tally) 0)
-  pub frs : (id reason : ℕ) → s .dev .link ≡ true
+  pub frs : (id reason : ℕ) → s .port .link ≡ true
       → (let x = frsArrive (record { id = id; reason = reason } ∷ []) (rootOf s noTally) in P (MessageRecord (Frs id reason)) (withRoot x s) (x .tally) 0)
-  pub linkUp : s .dev .link ≡ false → P LinkUp (linkedUp setup s) noTally 0
-  pub linkDown : s .dev .link ≡ true → P LinkDown (linkedDown setup defaults s) noTally 0
+  pub linkUp : s .port .link ≡ false → P LinkUp (linkedUp setup s) noTally 0
+  pub linkDown : s .port .link ≡ true → P LinkDown (linkedDown setup defaults s) noTally 0
   pub coldReset : P ColdReset (coldStarted setup defaults s) noTally 0
-  pub readQueue : P ReadQueue s noTally (registerOf (s .cells) (s .dev .queue))
-  pub removeOldest : P RemoveOldest (withDev (withQueue (s .dev) (removed (length (s .cells)) (s .dev .queue))) s) noTally 0
-  pub clearBits : (mask : ℕ) → P (ClearBits mask) (withDev (clearedDev mask (s .dev)) s) noTally 0
-  pub control : (b : ℕ) → P (Control b) (withDev (withControl (s .dev) (controlOf b)) s) noTally 0
+  pub readQueue : P ReadQueue s noTally (registerOf (s .cells) (s .port .queue))
+  pub removeOldest : P RemoveOldest (withDev (withQueue (s .port) (removed (length (s .cells)) (s .port .queue))) s) noTally 0
+  pub clearBits : (mask : ℕ) → P (ClearBits mask) (withDev (clearedDev mask (s .port)) s) noTally 0
+  pub control : (b : ℕ) → P (Control b) (withDev (withControl (s .port) (controlOf b)) s) noTally 0
   pub hardwareSet : (slot word mask : ℕ) → ltb 63 word ≡ false → P (HardwareSet slot word mask) (wordSet setup s slot word mask) noTally 0
-  pub readBits : P ReadBits s noTally (statusBits (s .dev))
+  pub readBits : P ReadBits s noTally (statusBits (s .port))
   pub noKind : P NoKind s noTally 0
 
 at-slot : (P : State → Tally → ℕ → Type 0) (s : State) (slot : ℕ) (e : Effect Seat)
@@ -105,8 +105,8 @@ at-port P s (does p tally dataWord) h = h
 
 -- a slot's status put back where it was
 same-status : (s : State) (slot : ℕ) (live : List ℕ)
-    → state (s .dev) (s .statuses) live (s .cells) ≡ state (s .dev) (set (s .statuses) slot (seatOf s slot .status)) live (s .cells)
-same-status s slot live = ap (λ (l : List Status). state (s .dev) l live (s .cells)) (sym (set-getD (s .statuses) slot ready))
+    → state (s .port) (s .statuses) live (s .cells) ≡ state (s .port) (set (s .statuses) slot (seatOf s slot .status)) live (s .cells)
+same-status s slot live = ap (λ (l : List Status). state (s .port) l live (s .cells)) (sym (set-getD (s .statuses) slot ready))
 
 module _ (P : Record → State → Tally → ℕ → Type 0) (setup : Setup) (defaults : List ℕ) (s : State) (h : Every P setup defaults s) where
   read-leaves : (q : Request) → Leaves (P (Read q)) (effect setup defaults s (Read q))
@@ -138,9 +138,9 @@ module _ (P : Record → State → Tally → ℕ → Type 0) (setup : Setup) (de
   unfolding effect messageEffect messageDone
   message-leaves m =
       at-port (P (MessageRecord m)) s (messageEffect (setup .«port_id») m (frontOf s))
-      (either-way (Leaves (λ (p : Front) (tally : Tally) (d : ℕ). P (MessageRecord m) (state (p .dev) (s .statuses) (s .live) (p .cells)) tally d)) (s .dev .link) _ _ (by m) (λ e. tt))
+      (either-way (Leaves (λ (p : Front) (tally : Tally) (d : ℕ). P (MessageRecord m) (state (p .dev) (s .statuses) (s .live) (p .cells)) tally d)) (s .port .link) _ _ (by m) (λ e. tt))
     where
-      by : (m : Message) → s .dev .link ≡ true
+      by : (m : Message) → s .port .link ≡ true
           → Leaves (λ (p : Front) (tally : Tally) (d : ℕ). P (MessageRecord m) (state (p .dev) (s .statuses) (s .live) (p .cells)) tally d) (messageDone (setup .«port_id») m (frontOf s))
       by NotReadiness e = tt
       by (Drs id) e = h .drs id e
@@ -149,12 +149,12 @@ module _ (P : Record → State → Tally → ℕ → Type 0) (setup : Setup) (de
   -- so P holds of what every record leaves that is done
   pub every : (r : Record) → Leaves (P r) (effect setup defaults s r)
   unfolding effect advanceEffect linkUpEffect linkDownEffect coldResetEffect controlEffect
-  every (Advance by) = either-way (Leaves (P (Advance by))) (leb (sumOf (s .dev .clock) by .0) clockEnd) _ _ (h .advance by) (λ e. tt)
+  every (Advance by) = either-way (Leaves (P (Advance by))) (leb (sumOf (s .port .clock) by .0) clockEnd) _ _ (h .advance by) (λ e. tt)
   every (Read q) = read-leaves q
   every (Write q value) = write-leaves q value
   every (MessageRecord m) = message-leaves m
-  every LinkUp = either-way (Leaves (P LinkUp)) (s .dev .link) _ _ (λ e. tt) (h .linkUp)
-  every LinkDown = either-way (Leaves (P LinkDown)) (s .dev .link) _ _ (h .linkDown) (λ e. tt)
+  every LinkUp = either-way (Leaves (P LinkUp)) (s .port .link) _ _ (λ e. tt) (h .linkUp)
+  every LinkDown = either-way (Leaves (P LinkDown)) (s .port .link) _ _ (h .linkDown) (λ e. tt)
   every ColdReset = h .coldReset
   every ReadQueue = h .readQueue
   every RemoveOldest = h .removeOldest

@@ -263,42 +263,42 @@ module _ (setup : Setup) (defaults : List ℕ) (s : State) where
 
   -- Kinds 02 and 03. 20: no such slot.
   pub status-20 : (isRead : Bool) (q : Request) (value : ℕ) → setup .slots ≤ q .slot → statusOf setup defaults s (request isRead q value) ≡ 20
-  status-20 isRead q value h = goes isRead q value route.NoSlot (goes-no-slot (setup .slots) (slotKind setup (q .slot)) (s .dev) (slotStatus q) isRead q h)
+  status-20 isRead q value h = goes isRead q value route.NoSlot (goes-no-slot (setup .slots) (slotKind setup (q .slot)) (s .port) (slotStatus q) isRead q h)
 
   -- Else 21: word above 63.
   pub status-21 : (isRead : Bool) (q : Request) (value : ℕ) → q .slot < setup .slots → 63 < q .word → statusOf setup defaults s (request isRead q value) ≡ 21
-  status-21 isRead q value h k = goes isRead q value route.NoWord (goes-no-word (setup .slots) (slotKind setup (q .slot)) (s .dev) (slotStatus q) isRead q h k)
+  status-21 isRead q value h k = goes isRead q value route.NoWord (goes-no-word (setup .slots) (slotKind setup (q .slot)) (s .port) (slotStatus q) isRead q h k)
 
   -- Else 24: enables above 15.
   pub status-24 : (isRead : Bool) (q : Request) (value : ℕ) → q .slot < setup .slots → q .word ≤ 63 → 15 < q .enables → statusOf setup defaults s (request isRead q value) ≡ 24
-  status-24 isRead q value h k l = goes isRead q value route.BadEnables (goes-bad-enables (setup .slots) (slotKind setup (q .slot)) (s .dev) (slotStatus q) isRead q h k l)
+  status-24 isRead q value h k l = goes isRead q value route.BadEnables (goes-bad-enables (setup .slots) (slotKind setup (q .slot)) (s .port) (slotStatus q) isRead q h k l)
 
   -- Else 18: link down,
-  pub status-18-link : (isRead : Bool) (q : Request) (value : ℕ) → Looked (setup .slots) q → s .dev .link ≡ false → statusOf setup defaults s (request isRead q value) ≡ 18
-  status-18-link isRead q value h e = goes isRead q value route.LinkDown (goes-link-down (setup .slots) (slotKind setup (q .slot)) (s .dev) (slotStatus q) isRead q h e)
+  pub status-18-link : (isRead : Bool) (q : Request) (value : ℕ) → Looked (setup .slots) q → s .port .link ≡ false → statusOf setup defaults s (request isRead q value) ≡ 18
+  status-18-link isRead q value h e = goes isRead q value route.LinkDown (goes-link-down (setup .slots) (slotKind setup (q .slot)) (s .port) (slotStatus q) isRead q h e)
 
   -- or FLR in progress: the clock is below its end.
-  pub status-18-flr : (isRead : Bool) (q : Request) (value : ℕ) (end t : Nanos) → Looked (setup .slots) q → s .dev .link ≡ true → slotStatus q .phase ≡ Pending (Flr end) t
-      → s .dev .clock .0 < end .0 → statusOf setup defaults s (request isRead q value) ≡ 18
-  status-18-flr isRead q value end t h e f l = goes isRead q value (route.FlrInProgress end) (goes-flr (setup .slots) (slotKind setup (q .slot)) (s .dev) (slotStatus q) isRead q end t h e f l)
+  pub status-18-flr : (isRead : Bool) (q : Request) (value : ℕ) (end t : Nanos) → Looked (setup .slots) q → s .port .link ≡ true → slotStatus q .phase ≡ Pending (Flr end) t
+      → s .port .clock .0 < end .0 → statusOf setup defaults s (request isRead q value) ≡ 18
+  status-18-flr isRead q value end t h e f l = goes isRead q value (route.FlrInProgress end) (goes-flr (setup .slots) (slotKind setup (q .slot)) (s .port) (slotStatus q) isRead q end t h e f l)
 
   -- Else, where the slot is Pending: 16 if CRS is shown,
-  pub status-16 : (isRead : Bool) (q : Request) (value : ℕ) (cause : Cause) (t : Nanos) → Looked (setup .slots) q → s .dev .link ≡ true → slotStatus q .phase ≡ Pending cause t
-      → flrInProgress (s .dev .clock) (slotStatus q) ≡ false → Shows (s .dev .control .visibility) isRead q → statusOf setup defaults s (request isRead q value) ≡ 16
+  pub status-16 : (isRead : Bool) (q : Request) (value : ℕ) (cause : Cause) (t : Nanos) → Looked (setup .slots) q → s .port .link ≡ true → slotStatus q .phase ≡ Pending cause t
+      → flrInProgress (s .port .clock) (slotStatus q) ≡ false → Shows (s .port .control .visibility) isRead q → statusOf setup defaults s (request isRead q value) ≡ 16
   status-16 isRead q value cause t h e f n w =
       goes isRead q value (route.Starting cause t Shown)
-      (goes-starting (setup .slots) (slotKind setup (q .slot)) (s .dev) (slotStatus q) isRead q cause t h e f n ∙ ap (route.Starting cause t) (crs-shown (s .dev .control .visibility) isRead q w))
+      (goes-starting (setup .slots) (slotKind setup (q .slot)) (s .port) (slotStatus q) isRead q cause t h e f n ∙ ap (route.Starting cause t) (crs-shown (s .port .control .visibility) isRead q w))
 
   -- and 17 if not.
-  pub status-17 : (isRead : Bool) (q : Request) (value : ℕ) (cause : Cause) (t : Nanos) → Looked (setup .slots) q → s .dev .link ≡ true → slotStatus q .phase ≡ Pending cause t
-      → flrInProgress (s .dev .clock) (slotStatus q) ≡ false → (Shows (s .dev .control .visibility) isRead q → ⊥) → statusOf setup defaults s (request isRead q value) ≡ 17
+  pub status-17 : (isRead : Bool) (q : Request) (value : ℕ) (cause : Cause) (t : Nanos) → Looked (setup .slots) q → s .port .link ≡ true → slotStatus q .phase ≡ Pending cause t
+      → flrInProgress (s .port .clock) (slotStatus q) ≡ false → (Shows (s .port .control .visibility) isRead q → ⊥) → statusOf setup defaults s (request isRead q value) ≡ 17
   status-17 isRead q value cause t h e f n w =
-      goes isRead q value (route.Starting cause t (crsOf (s .dev .control .visibility) isRead q)) (goes-starting (setup .slots) (slotKind setup (q .slot)) (s .dev) (slotStatus q) isRead q cause t h e f n)
-      ∙ ap completionNumber (crs-retry (s .dev .control .visibility) isRead q w)
+      goes isRead q value (route.Starting cause t (crsOf (s .port .control .visibility) isRead q)) (goes-starting (setup .slots) (slotKind setup (q .slot)) (s .port) (slotStatus q) isRead q cause t h e f n)
+      ∙ ap completionNumber (crs-retry (s .port .control .visibility) isRead q w)
 
   -- Else 0: the slot is Ready.
-  pub status-0 : (isRead : Bool) (q : Request) (value : ℕ) → Looked (setup .slots) q → s .dev .link ≡ true → slotStatus q .phase ≡ Ready → statusOf setup defaults s (request isRead q value) ≡ 0
-  status-0 isRead q value h e f = goes isRead q value route.Access (goes-access (setup .slots) (slotKind setup (q .slot)) (s .dev) (slotStatus q) isRead q h e f)
+  pub status-0 : (isRead : Bool) (q : Request) (value : ℕ) → Looked (setup .slots) q → s .port .link ≡ true → slotStatus q .phase ≡ Ready → statusOf setup defaults s (request isRead q value) ≡ 0
+  status-0 isRead q value h e f = goes isRead q value route.Access (goes-access (setup .slots) (slotKind setup (q .slot)) (s .port) (slotStatus q) isRead q h e f)
 
   -- ---- kind 0C: hardware sets bits
 
@@ -325,17 +325,17 @@ module _ (setup : Setup) (defaults : List ℕ) (s : State) where
   -- ---- kind 04: message
 
   -- 23: the link is down.
-  pub message-23 : (m : Message) → s .dev .link ≡ false → statusOf setup defaults s (kind.Message m) ≡ 23
+  pub message-23 : (m : Message) → s .port .link ≡ false → statusOf setup defaults s (kind.Message m) ≡ 23
   unfolding run effect answered messageEffect
   message-23 m e = ap (λ (b : Bool). completionNumber (answered setup s (atPort s (cond b (messageDone (setup .«port_id») m (frontOf s)) (refused completion.WrongState 0))) .reply .completion)) e
 
   -- Else 19: no readiness message.
-  pub message-19 : s .dev .link ≡ true → statusOf setup defaults s (kind.Message NotReadiness) ≡ 19
+  pub message-19 : s .port .link ≡ true → statusOf setup defaults s (kind.Message NotReadiness) ≡ 19
   unfolding run effect answered messageEffect messageDone
   message-19 e = ap (λ (b : Bool). completionNumber (answered setup s (atPort s (cond b (messageDone (setup .«port_id») NotReadiness (frontOf s)) (refused completion.WrongState 0))) .reply .completion)) e
 
   -- Else 0.
-  pub message-0 : (m : Message) → m ≢ NotReadiness → s .dev .link ≡ true → statusOf setup defaults s (kind.Message m) ≡ 0
+  pub message-0 : (m : Message) → m ≢ NotReadiness → s .port .link ≡ true → statusOf setup defaults s (kind.Message m) ≡ 0
   unfolding run effect answered messageEffect messageDone
   message-0 m n e =
       ap (λ (b : Bool). completionNumber (answered setup s (atPort s (cond b (messageDone (setup .«port_id») m (frontOf s)) (refused completion.WrongState 0))) .reply .completion)) e ∙ by m n
@@ -348,11 +348,11 @@ module _ (setup : Setup) (defaults : List ℕ) (s : State) where
   -- ---- kinds 05, 06 and 0B
 
   -- 23: link up when up, down when down.
-  pub link-up-23 : s .dev .link ≡ true → statusOf setup defaults s kind.LinkUp ≡ 23
+  pub link-up-23 : s .port .link ≡ true → statusOf setup defaults s kind.LinkUp ≡ 23
   unfolding run effect answered linkUpEffect
   link-up-23 e = ap (λ (b : Bool). completionNumber (answered setup s (cond b (refused completion.WrongState 0) (does (linkedUp setup s) noTally 0)) .reply .completion)) e
 
-  pub link-down-23 : s .dev .link ≡ false → statusOf setup defaults s kind.LinkDown ≡ 23
+  pub link-down-23 : s .port .link ≡ false → statusOf setup defaults s kind.LinkDown ≡ 23
   unfolding run effect answered linkDownEffect
   link-down-23 e = ap (λ (b : Bool). completionNumber (answered setup s (cond b (does (linkedDown setup defaults s) noTally 0) (refused completion.WrongState 0)) .reply .completion)) e
 
@@ -363,11 +363,11 @@ module _ (setup : Setup) (defaults : List ℕ) (s : State) where
   control-24 b (inr h) = rw (eq-eqb (b / 4 % 4) 3 h, or-true (ltb 15 b))
 
   -- Nothing else is refused.
-  pub link-up-0 : s .dev .link ≡ false → statusOf setup defaults s kind.LinkUp ≡ 0
+  pub link-up-0 : s .port .link ≡ false → statusOf setup defaults s kind.LinkUp ≡ 0
   unfolding run effect answered linkUpEffect
   link-up-0 e = ap (λ (b : Bool). completionNumber (answered setup s (cond b (refused completion.WrongState 0) (does (linkedUp setup s) noTally 0)) .reply .completion)) e
 
-  pub link-down-0 : s .dev .link ≡ true → statusOf setup defaults s kind.LinkDown ≡ 0
+  pub link-down-0 : s .port .link ≡ true → statusOf setup defaults s kind.LinkDown ≡ 0
   unfolding run effect answered linkDownEffect
   link-down-0 e =
       ap (λ (b : Bool). completionNumber (answered setup s (cond b (does (linkedDown setup defaults s) noTally 0) (refused completion.WrongState 0)) .reply .completion)) e
@@ -472,15 +472,15 @@ module _ (setup : Setup) (defaults : List ℕ) (s : State) where
   unfolding run effect advanceEffect linkUpEffect linkDownEffect coldResetEffect messageEffect hardwareEffect controlEffect
   status-table (kind.Read q) = rw (request-completion setup defaults s true q 0) (read-gives (routed setup s true q))
   status-table (kind.Write q value) =
-      rw (request-completion setup defaults s false q value) (write-gives (setup .slots) (slotKind setup (q .slot)) (s .dev) (statusAt (s .statuses) (q .slot)) q (routed setup s false q) (goes-because (setup .slots) (slotKind setup (q .slot)) (s .dev) (statusAt (s .statuses) (q .slot)) false q))
+      rw (request-completion setup defaults s false q value) (write-gives (setup .slots) (slotKind setup (q .slot)) (s .port) (statusAt (s .statuses) (q .slot)) q (routed setup s false q) (goes-because (setup .slots) (slotKind setup (q .slot)) (s .port) (statusAt (s .statuses) (q .slot)) false q))
   status-table (kind.Advance by) =
-      rw (number-answered setup s (advanceEffect by s)) (either-given (0 ∷ 22 ∷ []) (leb (sumOf (s .dev .clock) by .0) clockEnd) (does (advancedBy by s) noTally 0) (refused completion.ClockEnd 0) tt tt)
+      rw (number-answered setup s (advanceEffect by s)) (either-given (0 ∷ 22 ∷ []) (leb (sumOf (s .port .clock) by .0) clockEnd) (does (advancedBy by s) noTally 0) (refused completion.ClockEnd 0) tt tt)
   status-table (kind.Message m) =
       rw (number-answered setup s (effect setup defaults s (kind.Message m)), at-port-number s (messageEffect (setup .«port_id») m (frontOf s)))
-      (message-gives (setup .«port_id») m (frontOf s) (s .dev .link))
-  status-table kind.LinkUp = rw (number-answered setup s (linkUpEffect setup s)) (either-given (0 ∷ 23 ∷ []) (s .dev .link) (refused completion.WrongState 0) (does (linkedUp setup s) noTally 0) tt tt)
+      (message-gives (setup .«port_id») m (frontOf s) (s .port .link))
+  status-table kind.LinkUp = rw (number-answered setup s (linkUpEffect setup s)) (either-given (0 ∷ 23 ∷ []) (s .port .link) (refused completion.WrongState 0) (does (linkedUp setup s) noTally 0) tt tt)
   status-table kind.LinkDown =
-      rw (number-answered setup s (linkDownEffect setup defaults s)) (either-given (0 ∷ 23 ∷ []) (s .dev .link) (does (linkedDown setup defaults s) noTally 0) (refused completion.WrongState 0) tt tt)
+      rw (number-answered setup s (linkDownEffect setup defaults s)) (either-given (0 ∷ 23 ∷ []) (s .port .link) (does (linkedDown setup defaults s) noTally 0) (refused completion.WrongState 0) tt tt)
   status-table kind.ColdReset = rw (number-answered setup s (coldResetEffect setup defaults s)) tt
   status-table kind.ReadQueue = rw (number-answered setup s (effect setup defaults s kind.ReadQueue)) tt
   status-table kind.RemoveOldest = rw (number-answered setup s (effect setup defaults s kind.RemoveOldest)) tt
@@ -572,7 +572,7 @@ module _ (setup : Setup) (defaults : List ℕ) (s : State) where
   unfolding run effect advanceEffect linkUpEffect linkDownEffect coldResetEffect messageEffect writeEffect hardwareEffect controlEffect
   no-data (kind.Advance by) n =
       data-answered setup s (advanceEffect by s)
-      ∙ neither (leb (sumOf (s .dev .clock) by .0) clockEnd) (does (advancedBy by s) noTally 0) (refused completion.ClockEnd 0) refl refl
+      ∙ neither (leb (sumOf (s .port .clock) by .0) clockEnd) (does (advancedBy by s) noTally 0) (refused completion.ClockEnd 0) refl refl
   no-data (kind.Read q) n = absurd (false≢true (sym n))
   no-data (kind.Write q value) n =
       let x = writeEffect (setup .slots) (slotKind setup (q .slot)) (entryOf setup (q .slot)) defaults q value (seatOf s (q .slot)) in
@@ -580,17 +580,17 @@ module _ (setup : Setup) (defaults : List ℕ) (s : State) where
       ∙ neither (isAccess (routed setup s false q)) (writeDone (slotKind setup (q .slot)) (entryOf setup (q .slot)) defaults q value (seatOf s (q .slot))) (refused (routeCompletion (routed setup s false q)) 0) refl refl
   no-data (kind.Message m) n =
       data-answered setup s (effect setup defaults s (kind.Message m)) ∙ at-port-data s (messageEffect (setup .«port_id») m (frontOf s))
-      ∙ neither (s .dev .link) (messageDone (setup .«port_id») m (frontOf s)) (refused completion.WrongState 0) (message-data (setup .«port_id») m (frontOf s)) refl
-  no-data kind.LinkUp n = data-answered setup s (linkUpEffect setup s) ∙ neither (s .dev .link) (refused completion.WrongState 0) (does (linkedUp setup s) noTally 0) refl refl
+      ∙ neither (s .port .link) (messageDone (setup .«port_id») m (frontOf s)) (refused completion.WrongState 0) (message-data (setup .«port_id») m (frontOf s)) refl
+  no-data kind.LinkUp n = data-answered setup s (linkUpEffect setup s) ∙ neither (s .port .link) (refused completion.WrongState 0) (does (linkedUp setup s) noTally 0) refl refl
   no-data kind.LinkDown n =
-      data-answered setup s (linkDownEffect setup defaults s) ∙ neither (s .dev .link) (does (linkedDown setup defaults s) noTally 0) (refused completion.WrongState 0) refl refl
+      data-answered setup s (linkDownEffect setup defaults s) ∙ neither (s .port .link) (does (linkedDown setup defaults s) noTally 0) (refused completion.WrongState 0) refl refl
   no-data kind.ColdReset n = data-answered setup s (coldResetEffect setup defaults s)
   no-data kind.ReadQueue n = absurd (false≢true (sym n))
   no-data kind.RemoveOldest n = data-answered setup s (effect setup defaults s kind.RemoveOldest)
   no-data (kind.ClearBits mask) n = data-answered setup s (effect setup defaults s (kind.ClearBits mask))
   no-data (kind.Control b) n =
       data-answered setup s (effect setup defaults s (kind.Control b)) ∙ at-port-data s (controlEffect b (frontOf s))
-      ∙ neither (ltb 15 b || eqb (b / 4 % 4) 3) (refused completion.BadValue 0) (does (front (withControl (s .dev) (controlOf b)) (s .cells)) noTally 0) refl refl
+      ∙ neither (ltb 15 b || eqb (b / 4 % 4) 3) (refused completion.BadValue 0) (does (front (withControl (s .port) (controlOf b)) (s .cells)) noTally 0) refl refl
   no-data (kind.HardwareSet slot word mask) n =
       let x = hardwareEffect (setup .slots) (slotKind setup slot) slot word mask (seatOf s slot) in
       let z : Effect Seat = does (written slot word (hardwareSet (slotKind setup slot) word (wordAt (s .live) slot word) mask) (seatOf s slot)) noTally 0 in

@@ -33,11 +33,11 @@ module _ (setup : Setup) (defaults : List ℕ) (s : State) (bytes : List ℕ) wh
     pub queued : answerByte 2 ≡ min (length (s .cells) - length (kept setup defaults s recordOf)) (length (arrivals setup defaults s recordOf))
     pub all : answerByte 2 + answerByte 3 ≡ length (arrivals setup defaults s recordOf)
 
-  pub counts : length (s .statuses) ≤ 32 → s .dev .queue .depth ≤ length (s .cells) → Counts
+  pub counts : length (s .statuses) ≤ 32 → s .port .queue .depth ≤ length (s .cells) → Counts
   unfolding inBytes answerBytes
   counts few fits = let a = arrived setup defaults s recordOf few fits in record { queued = a .queued; all = a .all }
 
   -- EVERY STATUS BUT 0 changes no register, slot status, queue cell, port bit or clock
-  pub not-done : answerByte 0 ≢ 0 → ran .dev ≡ s
+  pub not-done : answerByte 0 ≢ 0 → ran .state ≡ s
   unfolding inBytes answerBytes
   not-done n = refused-unchanged setup defaults s recordOf n .state

@@ -240,16 +240,16 @@ port-does portId NoKind p = (refl, refl)
 
 -- ---- answers part by part, in a state at rest
 
-module _ (setup : Setup) (s : State) (rests : Resting setup (s .dev .clock) (s .dev .owed) (s .statuses)) where
+module _ (setup : Setup) (s : State) (rests : Resting setup (s .port .clock) (s .port .owed) (s .statuses)) where
   -- where clock and "owed" are the state's
-  rests-so : (d : Dev) → d .clock ≡ s .dev .clock → d .owed ≡ s .dev .owed → Resting setup (d .clock) (d .owed) (s .statuses)
+  rests-so : (d : Dev) → d .clock ≡ s .port .clock → d .owed ≡ s .port .owed → Resting setup (d .clock) (d .owed) (s .statuses)
   rests-so d c o = rw (c, o) rests
 
   port-answers : (e : Effect Front) → PortDoes (frontOf s) e → answered setup s (atPort s e) ≡ portPut s (portAnswered (frontOf s) e)
   unfolding answered portAnswered
   port-answers (refused c v) h = refl
   port-answers (does y tally v) h =
-      let t : State = record { dev = y .dev; statuses = s .statuses; live = s .live; cells = y .cells } in
+      let t : State = record { port = y .dev; statuses = s .statuses; live = s .live; cells = y .cells } in
       let r = rests-so (y .dev) (h .0) (h .1) in
       ap (λ (x : Scene). record { after = withLive x (s .live); reply = reply completion.Done (x .root .tally) v }) (settle-rest setup (sceneOf t tally) (r .due) (r .drs))
 
@@ -257,7 +257,7 @@ module _ (setup : Setup) (s : State) (rests : Resting setup (s .dev .clock) (s .
       → answered setup s (atSlot s i e) ≡ slotPut s i (slotAnswered (setup .bus) (entryOf setup i) i (seatOf s i) e)
   unfolding answered slotAnswered
   slot-answers i l (refused c v) h =
-      ap (λ (m : List Status). record { after = record { dev = s .dev; statuses = m; live = s .live; cells = s .cells }; reply = reply c noTally v })
+      ap (λ (m : List Status). record { after = record { port = s .port; statuses = m; live = s .live; cells = s .cells }; reply = reply c noTally v })
       (sym (set-getD (s .statuses) i ready))
   slot-answers i l (does y tally v) h =
       let r = rests-so (y .dev) (ap (λ (d : Dev). d .clock) (h .1)) (ap (λ (d : Dev). d .owed) (h .1)) in

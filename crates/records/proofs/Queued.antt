@@ -52,7 +52,7 @@ use Rattle.records.proofs.Laws.{write-dev, write-cells, sound-later}
 
 -- the queue's list
 abbrev pub listOf : State → List ℕ
-listOf s = messagesOf (s .cells) (s .dev .queue)
+listOf s = messagesOf (s .cells) (s .port .queue)
 
 -- link down and cold reset empty the queue, 09 takes its head
 abbrev pub keptBy : State → Record → List ℕ
@@ -81,23 +81,23 @@ kept setup defaults s r = keptIn s r (effect setup defaults s r)
 
 -- the root port as messages find it
 abbrev pub foundBy : State → Record → Dev
-foundBy s (Advance by) = s .dev
-foundBy s (Read q) = s .dev
-foundBy s (Write q value) = s .dev
-foundBy s (MessageRecord m) = s .dev
-foundBy s LinkUp = s .dev
-foundBy s LinkDown = afterLinkDown (s .dev)
-foundBy s ColdReset = afterColdReset (s .dev)
-foundBy s ReadQueue = s .dev
-foundBy s RemoveOldest = withQueue (s .dev) (removed (length (s .cells)) (s .dev .queue))
-foundBy s (ClearBits mask) = clearedDev mask (s .dev)
-foundBy s (Control b) = withControl (s .dev) (controlOf b)
-foundBy s (HardwareSet slot word mask) = s .dev
-foundBy s ReadBits = s .dev
-foundBy s NoKind = s .dev
+foundBy s (Advance by) = s .port
+foundBy s (Read q) = s .port
+foundBy s (Write q value) = s .port
+foundBy s (MessageRecord m) = s .port
+foundBy s LinkUp = s .port
+foundBy s LinkDown = afterLinkDown (s .port)
+foundBy s ColdReset = afterColdReset (s .port)
+foundBy s ReadQueue = s .port
+foundBy s RemoveOldest = withQueue (s .port) (removed (length (s .cells)) (s .port .queue))
+foundBy s (ClearBits mask) = clearedDev mask (s .port)
+foundBy s (Control b) = withControl (s .port) (controlOf b)
+foundBy s (HardwareSet slot word mask) = s .port
+foundBy s ReadBits = s .port
+foundBy s NoKind = s .port
 
 abbrev pub foundIn : State → Record → Effect State → Dev
-foundIn s r (refused c d) = s .dev
+foundIn s r (refused c d) = s .port
 foundIn s r (does t tally d) = foundBy s r
 
 -- a DRS comes as a message
@@ -139,9 +139,9 @@ no-drs r = simp or-false
 -- what a done record leaves before slots become Ready is what the port was found as, with the record's own messages arrived
 record Opens (setup : Setup) (s : State) (r : Record) (t : State) (tally : Tally) : Type 0 where
   ring : ringOf (rootOf t tally) ≡ withDrs (isDrs r && drsInterrupt (foundBy s r)) (arriveAll (foundBy s r .control .«frs_interrupt») (ofRecord setup s r) (fresh (s .cells) (foundBy s r .queue)))
-  control : t .dev .control ≡ foundBy s r .control
-  drs : t .dev .«drs_received» ≡ (foundBy s r .«drs_received» || isDrs r)
-  list : s .dev .queue .depth ≤ length (s .cells) → messagesOf (s .cells) (foundBy s r .queue) ≡ keptBy s r
+  control : t .port .control ≡ foundBy s r .control
+  drs : t .port .«drs_received» ≡ (foundBy s r .«drs_received» || isDrs r)
+  list : s .port .queue .depth ≤ length (s .cells) → messagesOf (s .cells) (foundBy s r .queue) ≡ keptBy s r
   slots : length (t .statuses) ≡ length (s .statuses)
 
 abbrev OpensAs : Setup → State → Record → State → Tally → ℕ → Type 0
@@ -153,9 +153,9 @@ each-length slot slots f [] = refl
 each-length slot slots f (s ∷ l) = ap suc (each-length (suc slot) slots f l)
 
 -- a record that changes nothing of the port itself
-quiet : (setup : Setup) (s : State) (r : Record) (t : State) → t .cells ≡ s .cells → t .dev .queue ≡ foundBy s r .queue → t .dev .control ≡ foundBy s r .control
-    → t .dev .«drs_received» ≡ foundBy s r .«drs_received» → isDrs r ≡ false → ofRecord setup s r ≡ [] → length (t .statuses) ≡ length (s .statuses)
-    → (s .dev .queue .depth ≤ length (s .cells) → messagesOf (s .cells) (foundBy s r .queue) ≡ keptBy s r) → Opens setup s r t noTally
+quiet : (setup : Setup) (s : State) (r : Record) (t : State) → t .cells ≡ s .cells → t .port .queue ≡ foundBy s r .queue → t .port .control ≡ foundBy s r .control
+    → t .port .«drs_received» ≡ foundBy s r .«drs_received» → isDrs r ≡ false → ofRecord setup s r ≡ [] → length (t .statuses) ≡ length (s .statuses)
+    → (s .port .queue .depth ≤ length (s .cells) → messagesOf (s .cells) (foundBy s r .queue) ≡ keptBy s r) → Opens setup s r t noTally
 unfolding arriveAll
 quiet setup s r t cells queue control drs is none slots list =
     record {
@@ -184,18 +184,18 @@ opens setup defaults s =
       drs =
           λ id e.
           record {
-            ring = all-drs (drsInterrupt (s .dev)) (s .dev .control .«frs_interrupt») (frsOfDrs (setup .«port_id») (s .dev)) (fresh (s .cells) (s .dev .queue));
+            ring = all-drs (drsInterrupt (s .port)) (s .port .control .«frs_interrupt») (frsOfDrs (setup .«port_id») (s .port)) (fresh (s .cells) (s .port .queue));
             control = refl;
-            drs = sym (or-true (s .dev .«drs_received»));
+            drs = sym (or-true (s .port .«drs_received»));
             list = λ h. refl;
             slots = refl;
           };
-      frs = λ id reason e. record { ring = no-drs _; control = refl; drs = sym (or-false (s .dev .«drs_received»)); list = λ h. refl; slots = refl };
+      frs = λ id reason e. record { ring = no-drs _; control = refl; drs = sym (or-false (s .port .«drs_received»)); list = λ h. refl; slots = refl };
       linkUp = λ e. quiet setup s LinkUp _ refl refl refl refl refl refl (each _) (λ h. refl);
-      linkDown = λ e. quiet setup s LinkDown _ refl refl refl refl refl refl (each _) (λ h. emptied-holds-nothing (s .cells) (s .dev .queue));
-      coldReset = quiet setup s ColdReset _ refl refl refl refl refl refl (each _) (λ h. emptied-holds-nothing (s .cells) (s .dev .queue));
+      linkDown = λ e. quiet setup s LinkDown _ refl refl refl refl refl refl (each _) (λ h. emptied-holds-nothing (s .cells) (s .port .queue));
+      coldReset = quiet setup s ColdReset _ refl refl refl refl refl refl (each _) (λ h. emptied-holds-nothing (s .cells) (s .port .queue));
       readQueue = quiet setup s ReadQueue s refl refl refl refl refl refl refl (λ h. refl);
-      removeOldest = quiet setup s RemoveOldest _ refl refl refl refl refl refl refl (λ h. removed-takes-head (s .cells) (s .dev .queue) h);
+      removeOldest = quiet setup s RemoveOldest _ refl refl refl refl refl refl refl (λ h. removed-takes-head (s .cells) (s .port .queue) h);
       clearBits = λ mask. quiet setup s (ClearBits mask) _ refl refl refl refl refl refl refl (λ h. refl);
       control = λ b. quiet setup s (Control b) _ refl refl refl refl refl refl refl (λ h. refl);
       hardwareSet = λ slot word mask e. quiet setup s (HardwareSet slot word mask) _ refl refl refl refl refl refl refl (λ h. refl);
@@ -256,7 +256,7 @@ sent-same : (setup : Setup) (t : State) (tally : Tally) → frsSent setup (scene
 unfolding frsSent
 sent-same setup t tally =
     let a : Alike (sceneOf t tally) (sceneOf t noTally) = record { statuses = refl; owed = refl; drs = refl; control = refl } in
-    ap₂ (λ (l m : List queueFrs.Frs). l ++ m) (alike-told setup _ _ a) (alike-frames setup (due (t .dev .clock) (t .statuses)) _ _ (alike-tells setup _ _ a))
+    ap₂ (λ (l m : List queueFrs.Frs). l ++ m) (alike-told setup _ _ a) (alike-frames setup (due (t .port .clock) (t .statuses)) _ _ (alike-tells setup _ _ a))
 
 -- ---- DRS Received after slots became Ready
 
@@ -316,7 +316,7 @@ own-most setup s (Read q) = omega arith
 own-most setup s (Write q value) = omega arith
 own-most setup s (MessageRecord NotReadiness) = omega arith
 own-most setup s (MessageRecord (Drs id)) =
-    either-way (λ (l : List queueFrs.Frs). length l ≤ 1) (not (s .dev .«drs_received») && eqb (s .dev .control .signalling) 2) (record { id = setup .«port_id»; reason = 1 } ∷ []) []
+    either-way (λ (l : List queueFrs.Frs). length l ≤ 1) (not (s .port .«drs_received») && eqb (s .port .control .signalling) 2) (record { id = setup .«port_id»; reason = 1 } ∷ []) []
     (λ e. omega arith) (λ e. omega arith)
 own-most setup s (MessageRecord (Frs id reason)) = omega arith
 own-most setup s LinkUp = omega arith
@@ -338,15 +338,15 @@ pub record ArrivedAs (s : State) (left : List ℕ) (messages : List queueFrs.Frs
   pub queued : x .reply .tally .queued ≡ min (length (s .cells) - length left) (length messages)
   pub all : x .reply .tally .queued + x .reply .tally .dropped ≡ length messages
   -- the queue's list is what was left, and the first queued of the messages
-  pub list : messagesOf (x .after .cells) (x .after .dev .queue) ≡ left ++ take (x .reply .tally .queued) (map cellOf messages)
+  pub list : messagesOf (x .after .cells) (x .after .port .queue) ≡ left ++ take (x .reply .tally .queued) (map cellOf messages)
 
 -- x raises the interrupts of a record that finds the root port so
 pub record Edges (found : Dev) (x : Ran State) : Type 0 where
   -- Received and Overflow go from 0 to 1 with the FRS interrupt enabled
-  pub received : x .reply .tally .received ≡ (found .control .«frs_interrupt» && (not (found .queue .received) && x .after .dev .queue .received))
-  pub overflow : x .reply .tally .overflow ≡ (found .control .«frs_interrupt» && (not (found .queue .overflow) && x .after .dev .queue .overflow))
+  pub received : x .reply .tally .received ≡ (found .control .«frs_interrupt» && (not (found .queue .received) && x .after .port .queue .received))
+  pub overflow : x .reply .tally .overflow ≡ (found .control .«frs_interrupt» && (not (found .queue .overflow) && x .after .port .queue .overflow))
   -- DRS Received goes from 0 to 1 with signalling 1
-  pub drs : x .reply .tally .drs ≡ (eqb (found .control .signalling) 1 && (not (found .«drs_received») && x .after .dev .«drs_received»))
+  pub drs : x .reply .tally .drs ≡ (eqb (found .control .signalling) 1 && (not (found .«drs_received») && x .after .port .«drs_received»))
 
 module _ (setup : Setup) (s : State) (r : Record) (t : State) (tally : Tally) (o : Opens setup s r t tally) (few : length (s .statuses) ≤ 32) where
   abbrev found : Dev
@@ -380,7 +380,7 @@ module _ (setup : Setup) (s : State) (r : Record) (t : State) (tally : Tally) (o
       several on messages (s .cells) (found .queue)
       (omega (arith, length-append (ofRecord setup s r) (frsSent setup (sceneOf t noTally)), own-most setup s r, frsSent-most setup (sceneOf t noTally), o .slots))
 
-  arrived-does : s .dev .queue .depth ≤ length (s .cells) → (d : ℕ) → ArrivedAs s (keptBy s r) messages (answered setup s (does t tally d))
+  arrived-does : s .port .queue .depth ≤ length (s .cells) → (d : ℕ) → ArrivedAs s (keptBy s r) messages (answered setup s (does t tally d))
   unfolding answered
   arrived-does h d =
       let left : found .queue .depth ≡ length (keptBy s r) = sym (messages-length (s .cells) (found .queue)) ∙ ap length (o .list h) in
@@ -405,7 +405,7 @@ module _ (setup : Setup) (s : State) (r : Record) (t : State) (tally : Tally) (o
       let i = isDrs r in
       let b = found .«drs_received» in
       let g = eqb (found .control .signalling) 1 in
-      let now = t .dev .owed && allReady setup (readyBy (t .dev .clock) (t .statuses)) in
+      let now = t .port .owed && allReady setup (readyBy (t .port .clock) (t .statuses)) in
       record {
         received =
             ap (λ (z : Ring). z .tally .received) ring-is ∙ outcome .interrupt
@@ -418,14 +418,14 @@ module _ (setup : Setup) (s : State) (r : Record) (t : State) (tally : Tally) (o
         drs =
             ap (λ (z : Ring). z .tally .drs) ring-is
             ∙ ap (λ (z : Bool). (z || (i && drsInterrupt found)) || raised) (outcome .drs)
-            ∙ ap (λ (z : Bool). (false || (i && (not b && g))) || (now && (not z && eqb (t .dev .control .signalling) 1))) (o .drs)
+            ∙ ap (λ (z : Bool). (false || (i && (not b && g))) || (now && (not z && eqb (t .port .control .signalling) 1))) (o .drs)
             ∙ ap (λ (c : PortControl.Control). (false || (i && (not b && g))) || (now && (not (b || i) && eqb (c .signalling) 1))) (o .control)
             ∙ truth 4 (λ i b g d. (false || (i && (not b && g))) || (d && (not (b || i) && g))) (λ i b g d. g && (not b && ((b || i) || d))) tt i b g now
             ∙ sym (ap (λ (z : Bool). g && (not b && z)) (told-drs setup (sceneOf t tally) ∙ ap (λ (z : Bool). z || now) (o .drs)));
       }
 
 module _ (setup : Setup) (s : State) (r : Record) (few : length (s .statuses) ≤ 32) where
-  arrived-in : (e : Effect State) → Leaves (OpensAs setup s r) e → s .dev .queue .depth ≤ length (s .cells)
+  arrived-in : (e : Effect State) → Leaves (OpensAs setup s r) e → s .port .queue .depth ≤ length (s .cells)
       → ArrivedAs s (keptIn s r e) (arrivalsIn setup (ofRecord setup s r) e) (answered setup s e)
   unfolding answered
   arrived-in (refused c d) o h = record { queued = omega arith; all = refl; list = sym (append-nil (listOf s)) }
@@ -436,16 +436,16 @@ module _ (setup : Setup) (s : State) (r : Record) (few : length (s .statuses) �
   edges-in (refused c d) o =
       let none : (e b : Bool) → false ≡ (e && (not b && b)) = truth 2 (λ e b. false) (λ e b. e && (not b && b)) tt in
       record {
-        received = none (s .dev .control .«frs_interrupt») (s .dev .queue .received);
-        overflow = none (s .dev .control .«frs_interrupt») (s .dev .queue .overflow);
-        drs = none (eqb (s .dev .control .signalling) 1) (s .dev .«drs_received»);
+        received = none (s .port .control .«frs_interrupt») (s .port .queue .received);
+        overflow = none (s .port .control .«frs_interrupt») (s .port .queue .overflow);
+        drs = none (eqb (s .port .control .signalling) 1) (s .port .«drs_received»);
       }
   edges-in (does t tally d) o = edges-does setup s r t tally o few d
 
 -- The queue's list after a record is what the record left of it (nothing after a link down or a cold reset that is done, all but its head
 -- after a removal, else all) and the first queued of the messages that arrived, in order; queued are as many as there was room for, and
 -- queued and dropped are all that arrived.
-pub arrived : (setup : Setup) (defaults : List ℕ) (s : State) (r : Record) → length (s .statuses) ≤ 32 → s .dev .queue .depth ≤ length (s .cells)
+pub arrived : (setup : Setup) (defaults : List ℕ) (s : State) (r : Record) → length (s .statuses) ≤ 32 → s .port .queue .depth ≤ length (s .cells)
     → ArrivedAs s (kept setup defaults s r) (arrivals setup defaults s r) (run setup defaults s r)
 unfolding run arrivals
 arrived setup defaults s r few h = arrived-in setup s r few (effect setup defaults s r) (every (OpensAs setup s) setup defaults s (opens setup defaults s) r) h
@@ -524,14 +524,14 @@ sent-none setup x e d =
     ap₂ (λ (b : Bool) (es : List Event). cond b (frsOfDrs (setup .«port_id») (x .root .dev)) [] ++ framesOf setup es (tells setup x)) d e
 
 -- a record that brings nothing and leaves the port's bits, or clears them, has no edges
-module _ (setup : Setup) (s t : State) (d : ℕ) (rest : due (t .dev .clock) (t .statuses) ≡ []) (drs : drsDue setup (sceneOf t noTally) ≡ false) where
-  no-edges : (not (s .dev .queue .received) && t .dev .queue .received) ≡ false → (not (s .dev .queue .overflow) && t .dev .queue .overflow) ≡ false
-      → (not (s .dev .«drs_received») && t .dev .«drs_received») ≡ false → Edges (s .dev) (answered setup s (does t noTally d))
+module _ (setup : Setup) (s t : State) (d : ℕ) (rest : due (t .port .clock) (t .statuses) ≡ []) (drs : drsDue setup (sceneOf t noTally) ≡ false) where
+  no-edges : (not (s .port .queue .received) && t .port .queue .received) ≡ false → (not (s .port .queue .overflow) && t .port .queue .overflow) ≡ false
+      → (not (s .port .«drs_received») && t .port .«drs_received») ≡ false → Edges (s .port) (answered setup s (does t noTally d))
   unfolding answered
   no-edges a b c =
-      let q = s .dev .queue in
-      let on = s .dev .control .«frs_interrupt» in
-      let g = eqb (s .dev .control .signalling) 1 in
+      let q = s .port .queue in
+      let on = s .port .control .«frs_interrupt» in
+      let g = eqb (s .port .control .signalling) 1 in
       let same = settle-rest setup (sceneOf t noTally) rest drs in
       record {
         received =
@@ -542,37 +542,37 @@ module _ (setup : Setup) (s t : State) (d : ℕ) (rest : due (t .dev .clock) (t 
             ∙ sym (ap (λ (x : Scene). on && (not (q .overflow) && x .root .dev .queue .overflow)) same ∙ ap (λ (z : Bool). on && z) b ∙ and-false on);
         drs =
             ap (λ (x : Scene). x .root .tally .drs) same
-            ∙ sym (ap (λ (x : Scene). g && (not (s .dev .«drs_received») && x .root .dev .«drs_received»)) same ∙ ap (λ (z : Bool). g && z) c ∙ and-false g);
+            ∙ sym (ap (λ (x : Scene). g && (not (s .port .«drs_received») && x .root .dev .«drs_received»)) same ∙ ap (λ (z : Bool). g && z) c ∙ and-false g);
       }
 
 cleared : (b m : Bool) → (not b && (b && not m)) ≡ false
 cleared = truth 2 (λ b m. not b && (b && not m)) (λ b m. false) tt
 
 module _ (setup : Setup) (defaults : List ℕ) (s : State) (sound : Sound setup s) (fits : Fitting setup defaults s) (few : length (s .statuses) ≤ 32) where
-  phases : (i : ℕ) → soundPhase (s .dev .clock) (statusAt (s .statuses) i .phase) ≡ true
+  phases : (i : ℕ) → soundPhase (s .port .clock) (statusAt (s .statuses) i .phase) ≡ true
   phases i = by (ltb i (setup .slots)) refl
     where
-      by : (b : Bool) → ltb i (setup .slots) ≡ b → soundPhase (s .dev .clock) (statusAt (s .statuses) i .phase) ≡ true
+      by : (b : Bool) → ltb i (setup .slots) ≡ b → soundPhase (s .port .clock) (statusAt (s .statuses) i .phase) ≡ true
       by true e = phase-test sound i (ltb-true i (setup .slots) e)
-      by false e = ap (λ (x : Status). soundPhase (s .dev .clock) (x .phase)) (fits .past i (ltb-false i (setup .slots) e))
+      by false e = ap (λ (x : Status). soundPhase (s .port .clock) (x .phase)) (fits .past i (ltb-false i (setup .slots) e))
 
-  rests : due (s .dev .clock) (s .statuses) ≡ []
-  rests = due-none 0 (s .dev .clock) (s .statuses) phases
+  rests : due (s .port .clock) (s .statuses) ≡ []
+  rests = due-none 0 (s .port .clock) (s .statuses) phases
 
-  drs-rests : (s .dev .owed && allReady setup (s .statuses)) ≡ false
-  drs-rests = calm (s .dev .owed) (s .dev .link) (allReady setup (s .statuses)) (owed-test sound)
+  drs-rests : (s .port .owed && allReady setup (s .statuses)) ≡ false
+  drs-rests = calm (s .port .owed) (s .port .link) (allReady setup (s .statuses)) (owed-test sound)
 
-  stopped : due (s .dev .clock) (stoppedByReset setup (s .dev) (s .statuses)) ≡ []
-  stopped = due-stopped 0 (setup .slots) (s .dev .clock) (s .statuses) (λ i e. fits .past i (omega arith))
+  stopped : due (s .port .clock) (stoppedByReset setup (s .port) (s .statuses)) ≡ []
+  stopped = due-stopped 0 (setup .slots) (s .port .clock) (s .statuses) (λ i e. fits .past i (omega arith))
 
   abbrev EdgesAs : Record → State → Tally → ℕ → Type 0
-  EdgesAs r t tally d = Edges (s .dev) (answered setup s (does t tally d))
+  EdgesAs r t tally d = Edges (s .port) (answered setup s (does t tally d))
 
   sound-edges : Every EdgesAs setup defaults s
   unfolding clearedDev afterReset afterLinkDown afterColdReset
   sound-edges =
       let o = opens setup defaults s in
-      let q = s .dev .queue in
+      let q = s .port .queue in
       record {
         advance = λ by e. edges-does setup s (Advance by) _ noTally (o .advance by e) few 0;
         read = λ p e. edges-does setup s (Read p) s noTally (o .read p e) few _;
@@ -580,27 +580,27 @@ module _ (setup : Setup) (defaults : List ℕ) (s : State) (sound : Sound setup 
         drs = λ id e. edges-does setup s (MessageRecord (Drs id)) _ _ (o .drs id e) few 0;
         frs = λ id reason e. edges-does setup s (MessageRecord (Frs id reason)) _ _ (o .frs id reason e) few 0;
         linkUp = λ e. edges-does setup s LinkUp _ noTally (o .linkUp e) few 0;
-        linkDown = λ e. no-edges setup s _ 0 stopped refl (not-and-self (q .received)) (not-and-self (q .overflow)) (and-false (not (s .dev .«drs_received»)));
-        coldReset = no-edges setup s _ 0 stopped refl (and-false (not (q .received))) (and-false (not (q .overflow))) (and-false (not (s .dev .«drs_received»)));
+        linkDown = λ e. no-edges setup s _ 0 stopped refl (not-and-self (q .received)) (not-and-self (q .overflow)) (and-false (not (s .port .«drs_received»)));
+        coldReset = no-edges setup s _ 0 stopped refl (and-false (not (q .received))) (and-false (not (q .overflow))) (and-false (not (s .port .«drs_received»)));
         readQueue = edges-does setup s ReadQueue s noTally (o .readQueue) few _;
         removeOldest =
             no-edges setup s _ 0 rests drs-rests
             (ap (λ (b : Bool). not (q .received) && b) (removed-received (length (s .cells)) q) ∙ not-and-self (q .received))
-            (ap (λ (b : Bool). not (q .overflow) && b) (removed-overflow (length (s .cells)) q) ∙ not-and-self (q .overflow)) (not-and-self (s .dev .«drs_received»));
-        clearBits = λ mask. no-edges setup s _ 0 rests drs-rests (cleared (q .received) (bit mask 0)) (cleared (q .overflow) (bit mask 1)) (cleared (s .dev .«drs_received») (bit mask 2));
-        control = λ b. no-edges setup s _ 0 rests drs-rests (not-and-self (q .received)) (not-and-self (q .overflow)) (not-and-self (s .dev .«drs_received»));
+            (ap (λ (b : Bool). not (q .overflow) && b) (removed-overflow (length (s .cells)) q) ∙ not-and-self (q .overflow)) (not-and-self (s .port .«drs_received»));
+        clearBits = λ mask. no-edges setup s _ 0 rests drs-rests (cleared (q .received) (bit mask 0)) (cleared (q .overflow) (bit mask 1)) (cleared (s .port .«drs_received») (bit mask 2));
+        control = λ b. no-edges setup s _ 0 rests drs-rests (not-and-self (q .received)) (not-and-self (q .overflow)) (not-and-self (s .port .«drs_received»));
         hardwareSet = λ slot word mask e. edges-does setup s (HardwareSet slot word mask) _ noTally (o .hardwareSet slot word mask e) few 0;
         readBits = edges-does setup s ReadBits s noTally (o .readBits) few _;
         noKind = edges-does setup s NoKind s noTally (o .noKind) few 0;
       }
 
-  by-effect : (r : Record) (e : Effect State) → Leaves (EdgesAs r) e → Edges (s .dev) (answered setup s e)
+  by-effect : (r : Record) (e : Effect State) → Leaves (EdgesAs r) e → Edges (s .port) (answered setup s e)
   by-effect r (refused c d) h = edges-in setup s r few (refused c d) tt
   by-effect r (does t tally d) h = h
 
   -- In a sound state, interrupts are exactly the 0 to 1 edges from the port as the record found it to the port as it leaves it, with the
   -- enables as the record found them.
-  pub interrupts-are-edges : (r : Record) → Edges (s .dev) (run setup defaults s r)
+  pub interrupts-are-edges : (r : Record) → Edges (s .port) (run setup defaults s r)
   unfolding run
   interrupts-are-edges r = by-effect r (effect setup defaults s r) (every EdgesAs setup defaults s sound-edges r)
 
@@ -610,7 +610,7 @@ module _ (setup : Setup) (defaults : List ℕ) (s : State) (sound : Sound setup 
   few-sent : (r : Record) (t : State) (tally : Tally) → Opens setup s r t tally → ofRecord setup s r ≡ [] → length (ofRecord setup s r ++ frsSent setup (sceneOf t noTally)) ≤ 33
   few-sent r t tally o e = rw e (omega (arith, frsSent-most setup (sceneOf t noTally), o .slots))
 
-  few-own : (r : Record) (t : State) → due (t .dev .clock) (t .statuses) ≡ [] → drsDue setup (sceneOf t noTally) ≡ false
+  few-own : (r : Record) (t : State) → due (t .port .clock) (t .statuses) ≡ [] → drsDue setup (sceneOf t noTally) ≡ false
       → length (ofRecord setup s r ++ frsSent setup (sceneOf t noTally)) ≤ 33
   few-own r t e d = rw (sent-none setup (sceneOf t noTally) e d, append-nil (ofRecord setup s r)) (omega (arith, own-most setup s r))
 
@@ -653,9 +653,9 @@ module _ (setup : Setup) (defaults : List ℕ) (s : State) (sound : Sound setup 
   pub interrupt-byte : (r : Record)
       → (let x = run setup defaults s r in
       let byte = getD (answerBytes (x .reply)) 1 0 in
-      (bit byte 0 ≡ (s .dev .control .«frs_interrupt» && (not (s .dev .queue .received) && x .after .dev .queue .received)))
-      × (bit byte 1 ≡ (s .dev .control .«frs_interrupt» && (not (s .dev .queue .overflow) && x .after .dev .queue .overflow)))
-      × (bit byte 2 ≡ (eqb (s .dev .control .signalling) 1 && (not (s .dev .«drs_received») && x .after .dev .«drs_received»))))
+      (bit byte 0 ≡ (s .port .control .«frs_interrupt» && (not (s .port .queue .received) && x .after .port .queue .received)))
+      × (bit byte 1 ≡ (s .port .control .«frs_interrupt» && (not (s .port .queue .overflow) && x .after .port .queue .overflow)))
+      × (bit byte 2 ≡ (eqb (s .port .control .signalling) 1 && (not (s .port .«drs_received») && x .after .port .«drs_received»))))
   unfolding answerBytes
   interrupt-byte r =
       let b = interrupt-bits (run setup defaults s r .reply .tally) in

@@ -51,19 +51,19 @@ not-owed true true true e = absurd (false≢true e)
 
 -- every slot, also past the last, is sound
 pub all-phases : (setup : Setup) (defaults : List ℕ) (s : State) → Sound setup s → Fitting setup defaults s
-    → (i : ℕ) → soundPhase (s .dev .clock) (statusAt (s .statuses) i .phase) ≡ true
+    → (i : ℕ) → soundPhase (s .port .clock) (statusAt (s .statuses) i .phase) ≡ true
 all-phases setup defaults s h f i = by (ltb i (setup .slots)) refl
   where
-    by : (b : Bool) → ltb i (setup .slots) ≡ b → soundPhase (s .dev .clock) (statusAt (s .statuses) i .phase) ≡ true
+    by : (b : Bool) → ltb i (setup .slots) ≡ b → soundPhase (s .port .clock) (statusAt (s .statuses) i .phase) ≡ true
     by true e = phase-test h i (ltb-true i (setup .slots) e)
-    by false e = ap (λ (t : Status). soundPhase (s .dev .clock) (t .phase)) (f .past i (ltb-false i (setup .slots) e))
+    by false e = ap (λ (t : Status). soundPhase (s .port .clock) (t .phase)) (f .past i (ltb-false i (setup .slots) e))
 
 -- A sound state is at rest.
-pub sound-rests : (setup : Setup) (defaults : List ℕ) (s : State) → Sound setup s → Fitting setup defaults s → Resting setup (s .dev .clock) (s .dev .owed) (s .statuses)
+pub sound-rests : (setup : Setup) (defaults : List ℕ) (s : State) → Sound setup s → Fitting setup defaults s → Resting setup (s .port .clock) (s .port .owed) (s .statuses)
 sound-rests setup defaults s h f =
     record {
-      due = none-due (s .dev .clock) (s .statuses) (all-phases setup defaults s h f);
-      drs = not-owed (s .dev .owed) (s .dev .link) (allReady setup (s .statuses)) (owed-test h);
+      due = none-due (s .port .clock) (s .statuses) (all-phases setup defaults s h f);
+      drs = not-owed (s .port .owed) (s .port .link) (allReady setup (s .statuses)) (owed-test h);
     }
 
 -- So there settling changes nothing and brings nothing.

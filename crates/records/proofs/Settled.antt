@@ -43,12 +43,12 @@ Starting clock (Pending c t) = (t .0 ≤ clock .0 + greatestTime) × (soundCause
 
 -- sound, but for slots that are due and a DRS that is to be told
 pub record Settling (setup : Setup) (defaults : List ℕ) (s t : State) : Type 0 where
-  pub clock : t .dev .clock .0 ≤ clockEnd
-  pub ring : SoundRing (t .cells) (t .dev .queue)
-  pub signalling : t .dev .control .signalling ≤ 2
-  pub phases : (i : ℕ) → i < setup .slots → Starting (t .dev .clock) (statusAt (t .statuses) i .phase)
-  pub links : (i : ℕ) → i < setup .slots → matchesLink (t .dev .link) (statusAt (t .statuses) i .phase) ≡ true
-  pub owed : t .dev .owed ≡ true → t .dev .link ≡ true
+  pub clock : t .port .clock .0 ≤ clockEnd
+  pub ring : SoundRing (t .cells) (t .port .queue)
+  pub signalling : t .port .control .signalling ≤ 2
+  pub phases : (i : ℕ) → i < setup .slots → Starting (t .port .clock) (statusAt (t .statuses) i .phase)
+  pub links : (i : ℕ) → i < setup .slots → matchesLink (t .port .link) (statusAt (t .statuses) i .phase) ≡ true
+  pub owed : t .port .owed ≡ true → t .port .link ≡ true
   pub past : (i : ℕ) → setup .slots ≤ i → statusAt (t .statuses) i ≡ ready
   pub cells : length (t .cells) ≡ length (s .cells)
   pub live : length (t .live) ≡ length (s .live)
@@ -97,14 +97,14 @@ never-pending c t q = let z : _≡_ {A = ℕ} 0 1 = cc in omega arith
 
 module _ (setup : Setup) (good : SoundSetup setup) (defaults : List ℕ) (s : State) (fits : Fitting setup defaults s) where
   -- only the card's slots are due
-  pub slots-due : (t : State) → Settling setup defaults s t → (e : Event) → List·Memᴰ e (due (t .dev .clock) (t .statuses)) → e .slot < 256
+  pub slots-due : (t : State) → Settling setup defaults s t → (e : Event) → List·Memᴰ e (due (t .port .clock) (t .statuses)) → e .slot < 256
   slots-due t h e m = by (ltb (e .slot) (setup .slots)) refl
     where
       by : (b : Bool) → ltb (e .slot) (setup .slots) ≡ b → e .slot < 256
       by true q = let few = fits .most in omega (arith, ltb-true (e .slot) (setup .slots) q)
       by false q =
           let gone = h .past (e .slot) (ltb-false (e .slot) (setup .slots) q) in
-          let pends = due-order (t .dev .clock) (t .statuses) .exactly e .0 m .0 in
+          let pends = due-order (t .port .clock) (t .statuses) .exactly e .0 m .0 in
           absurd (never-pending (e .cause) (e .time) (sym (ap (λ (v : Status). v .phase) gone) ∙ pends))
 
   -- settling makes the state sound
@@ -119,7 +119,7 @@ module _ (setup : Setup) (good : SoundSetup setup) (defaults : List ℕ) (s : St
             ∙ phase-settled clock (statusAt (t .statuses) i .phase) (h .phases i l))
             (λ i l.
             ap (λ (v : Status). matchesLink (x .root .dev .link) (v .phase)) (at i) ∙ ap (λ (b : Bool). matchesLink b (phaseBy clock (statusAt (t .statuses) i .phase))) (k .link)
-            ∙ link-settled (t .dev .link) clock (statusAt (t .statuses) i .phase) (h .links i l))
+            ∙ link-settled (t .port .link) clock (statusAt (t .statuses) i .phase) (h .links i l))
             (owed-sound (x .root .dev .owed) (x .root .dev .link) (allReady setup (x .statuses)) (λ e. k .link ∙ h .owed (settles-owed setup (sceneOf t tally) e)) (settled-drs setup (sceneOf t tally)));
         fits = record {
           some = fits .some;
@@ -138,7 +138,7 @@ module _ (setup : Setup) (good : SoundSetup setup) (defaults : List ℕ) (s : St
       x = settles setup (sceneOf t tally)
 
       clock : Nanos
-      clock = t .dev .clock
+      clock = t .port .clock
 
       k : Kept (sceneOf t tally) x
       k = settled-kept setup (sceneOf t tally)

@@ -104,10 +104,10 @@ owed-exactly setup d l =
 -- ---- the test and what 5 lists
 
 -- soundness by the tests of each slot
-pub by-tests : (setup : Setup) (s : State) → s .dev .clock .0 ≤ clockEnd → s .dev .queue .start < length (s .cells) → s .dev .queue .depth ≤ length (s .cells)
-    → ((k : ℕ) → k < s .dev .queue .depth → soundCell (getD (s .cells) (placeOf (length (s .cells)) (s .dev .queue .start) k) 0) ≡ true) → s .dev .control .signalling ≤ 2
-    → ((i : ℕ) → i < setup .slots → soundPhase (s .dev .clock) (phaseAt s i) ≡ true) → ((i : ℕ) → i < setup .slots → matchesLink (s .dev .link) (phaseAt s i) ≡ true)
-    → soundOwed setup (s .dev) (s .statuses) ≡ true → Sound setup s
+pub by-tests : (setup : Setup) (s : State) → s .port .clock .0 ≤ clockEnd → s .port .queue .start < length (s .cells) → s .port .queue .depth ≤ length (s .cells)
+    → ((k : ℕ) → k < s .port .queue .depth → soundCell (getD (s .cells) (placeOf (length (s .cells)) (s .port .queue .start) k) 0) ≡ true) → s .port .control .signalling ≤ 2
+    → ((i : ℕ) → i < setup .slots → soundPhase (s .port .clock) (phaseAt s i) ≡ true) → ((i : ℕ) → i < setup .slots → matchesLink (s .port .link) (phaseAt s i) ≡ true)
+    → soundOwed setup (s .port) (s .statuses) ≡ true → Sound setup s
 by-tests setup s clock start depth cells signalling phases links owed =
     record {
       clock = clock;
@@ -118,15 +118,15 @@ by-tests setup s clock start depth cells signalling phases links owed =
       later = λ i c t l e. pends i c t l e .0;
       most = λ i c t l e. pends i c t l e .1;
       flrEnd = λ i end t l e. pends i (Flr end) t l e .2 end refl;
-      linkDown = λ i l e. down-exactly (s .dev .link) .0 (subst (λ (p : Phase). matchesLink (s .dev .link) p ≡ true) e (links i l));
-      linkUp = λ i l n. other-exactly (s .dev .link) (phaseAt s i) n .0 (links i l);
-      owedLink = λ o. owed-exactly setup (s .dev) (s .statuses) .0 owed o .0;
-      owedSlots = λ o. owed-exactly setup (s .dev) (s .statuses) .0 owed o .1;
+      linkDown = λ i l e. down-exactly (s .port .link) .0 (subst (λ (p : Phase). matchesLink (s .port .link) p ≡ true) e (links i l));
+      linkUp = λ i l n. other-exactly (s .port .link) (phaseAt s i) n .0 (links i l);
+      owedLink = λ o. owed-exactly setup (s .port) (s .statuses) .0 owed o .0;
+      owedSlots = λ o. owed-exactly setup (s .port) (s .statuses) .0 owed o .1;
     }
   where
     pends : (i : ℕ) (c : Cause) (t : Nanos) → i < setup .slots → phaseAt s i ≡ Pending c t
-        → (s .dev .clock .0 < t .0) × (t .0 ≤ s .dev .clock .0 + 1006632960) × ((end : Nanos) → c ≡ Flr end → end .0 ≤ t .0)
-    pends i c t l e = pending-exactly (s .dev .clock) c t .0 (subst (λ (p : Phase). soundPhase (s .dev .clock) p ≡ true) e (phases i l))
+        → (s .port .clock .0 < t .0) × (t .0 ≤ s .port .clock .0 + 1006632960) × ((end : Nanos) → c ≡ Flr end → end .0 ≤ t .0)
+    pends i c t l e = pending-exactly (s .port .clock) c t .0 (subst (λ (p : Phase). soundPhase (s .port .clock) p ≡ true) e (phases i l))
 
 ready-not-down : Ready ≡ Down → ⊥
 ready-not-down q = let z : _≡_ {A = ℕ} 0 1 = cc in omega arith
@@ -136,35 +136,35 @@ pending-not-down c t q = let z : _≡_ {A = ℕ} 0 1 = cc in omega arith
 
 -- the tests of a sound state
 module _ {setup : Setup} {s : State} (h : Sound setup s) where
-  pub phase-test : (i : ℕ) → i < setup .slots → soundPhase (s .dev .clock) (phaseAt s i) ≡ true
+  pub phase-test : (i : ℕ) → i < setup .slots → soundPhase (s .port .clock) (phaseAt s i) ≡ true
   phase-test i l = by (phaseAt s i) refl
     where
-      by : (p : Phase) → phaseAt s i ≡ p → soundPhase (s .dev .clock) p ≡ true
+      by : (p : Phase) → phaseAt s i ≡ p → soundPhase (s .port .clock) p ≡ true
       by Down e = refl
       by Ready e = refl
       by (Pending c t) e =
-          pending-exactly (s .dev .clock) c t .1
+          pending-exactly (s .port .clock) c t .1
           (h .later i c t l e, h .most i c t l e, λ end q. h .flrEnd i end t l (e ∙ ap (λ (x : Cause). Pending x t) q))
 
-  pub link-test : (i : ℕ) → i < setup .slots → matchesLink (s .dev .link) (phaseAt s i) ≡ true
+  pub link-test : (i : ℕ) → i < setup .slots → matchesLink (s .port .link) (phaseAt s i) ≡ true
   link-test i l = by (phaseAt s i) refl
     where
-      by : (p : Phase) → phaseAt s i ≡ p → matchesLink (s .dev .link) p ≡ true
-      by Down e = down-exactly (s .dev .link) .1 (h .linkDown i l e)
+      by : (p : Phase) → phaseAt s i ≡ p → matchesLink (s .port .link) p ≡ true
+      by Down e = down-exactly (s .port .link) .1 (h .linkDown i l e)
       by Ready e = h .linkUp i l (λ q. ready-not-down (sym e ∙ q))
       by (Pending c t) e = h .linkUp i l (λ q. pending-not-down c t (sym e ∙ q))
 
-  pub cell-test : (k : ℕ) → k < s .dev .queue .depth → soundCell (getD (s .cells) (placeOf (length (s .cells)) (s .dev .queue .start) k) 0) ≡ true
+  pub cell-test : (k : ℕ) → k < s .port .queue .depth → soundCell (getD (s .cells) (placeOf (length (s .cells)) (s .port .queue .start) k) 0) ≡ true
   cell-test k l = cell-exactly _ .1 (h .cells k l)
 
-  pub owed-test : soundOwed setup (s .dev) (s .statuses) ≡ true
-  owed-test = owed-exactly setup (s .dev) (s .statuses) .1 (λ o. (h .owedLink o, h .owedSlots o))
+  pub owed-test : soundOwed setup (s .port) (s .statuses) ≡ true
+  owed-test = owed-exactly setup (s .port) (s .statuses) .1 (λ o. (h .owedLink o, h .owedSlots o))
 
 -- A state that passes the test for refusal 5 is sound in every point.
 pub sound-facts : (setup : Setup) (s : State) → sound setup s ≡ true → Sound setup s
 unfolding sound
 sound-facts setup s t =
-    let d = s .dev in
+    let d = s .port in
     let q = d .queue in
     let n = length (s .cells) in
     let a = leb (d .clock .0) clockEnd in
@@ -188,7 +188,7 @@ sound-facts setup s t =
 pub facts-sound : (setup : Setup) (s : State) → Sound setup s → sound setup s ≡ true
 unfolding sound
 facts-sound setup s h =
-    let d = s .dev in
+    let d = s .port in
     let q = d .queue in
     both _ _
     (both _ _
@@ -209,14 +209,14 @@ sound-exactly setup s = (sound-facts setup s, facts-sound setup s)
 -- ---- states that are sound
 
 -- With the link down, nothing owed, every slot Down and the queue empty at cell 0 a state is sound.
-pub down-sound : (setup : Setup) (s : State) → s .dev .clock .0 ≤ clockEnd → 0 < length (s .cells) → s .dev .control .signalling ≤ 2
-    → s .dev .link ≡ false → s .dev .owed ≡ false → s .dev .queue .start ≡ 0 → s .dev .queue .depth ≡ 0
+pub down-sound : (setup : Setup) (s : State) → s .port .clock .0 ≤ clockEnd → 0 < length (s .cells) → s .port .control .signalling ≤ 2
+    → s .port .link ≡ false → s .port .owed ≡ false → s .port .queue .start ≡ 0 → s .port .queue .depth ≡ 0
     → ((i : ℕ) → i < setup .slots → statusAt (s .statuses) i ≡ down) → Sound setup s
 down-sound setup s clock some signalling link owed start depth slots =
     by-tests setup s clock (omega arith) (omega arith) (λ k h. absurd (omega arith)) signalling
-    (λ i h. ap (λ (v : Status). soundPhase (s .dev .clock) (v .phase)) (slots i h))
-    (λ i h. ap (λ (v : Status). matchesLink (s .dev .link) (v .phase)) (slots i h) ∙ ap not link)
-    (ap (λ (b : Bool). not b || (s .dev .link && not (allReady setup (s .statuses)))) owed)
+    (λ i h. ap (λ (v : Status). soundPhase (s .port .clock) (v .phase)) (slots i h))
+    (λ i h. ap (λ (v : Status). matchesLink (s .port .link) (v .phase)) (slots i h) ∙ ap not link)
+    (ap (λ (b : Bool). not b || (s .port .link && not (allReady setup (s .statuses)))) owed)
 
 -- One status per slot and 64 registers per slot: the state fits the set-up.
 pub exact-fits : (setup : Setup) (defaults : List ℕ) (s : State) → 0 < setup .slots → setup .slots ≤ 32 → length (s .statuses) ≡ setup .slots

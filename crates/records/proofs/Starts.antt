@@ -53,25 +53,25 @@ for-time clock cause t =
     (same-test (leb (clock .0 + t) (clock .0)) (eqb t 0) (λ e. let h = leb-true (clock .0 + t) (clock .0) e in eq-eqb t 0 (omega arith))
     (λ e. let h = eqb-true t 0 e in le-leb (clock .0 + t) (clock .0) (omega arith)))
 
-module _ (setup : Setup) (defaults : List ℕ) (s : State) (c : s .dev .clock .0 ≤ clockEnd) (n : setup .slots ≤ length (s .statuses)) where
-  settled-at : (t : State) (tally : Tally) (d i : ℕ) → statusAt (answered setup s (does t tally d) .after .statuses) i ≡ record { phase = phaseBy (t .dev .clock) (statusAt (t .statuses) i .phase) }
+module _ (setup : Setup) (defaults : List ℕ) (s : State) (c : s .port .clock .0 ≤ clockEnd) (n : setup .slots ≤ length (s .statuses)) where
+  settled-at : (t : State) (tally : Tally) (d i : ℕ) → statusAt (answered setup s (does t tally d) .after .statuses) i ≡ record { phase = phaseBy (t .port .clock) (statusAt (t .statuses) i .phase) }
   unfolding answered
-  settled-at t tally d i = ap (λ (l : List Status). statusAt l i) (settled-statuses setup (sceneOf t tally)) ∙ at-readyBy (t .dev .clock) (t .statuses) i
+  settled-at t tally d i = ap (λ (l : List Status). statusAt l i) (settled-statuses setup (sceneOf t tally)) ∙ at-readyBy (t .port .clock) (t .statuses) i
 
   -- After link up slot i is Pending until c + its own DL Up Time, or Ready at once where that is 0.
-  pub after-link-up : (i : ℕ) → s .dev .link ≡ false → i < setup .slots
-      → statusAt (run setup defaults s kind.LinkUp .after .statuses) i ≡ pendingFor cause.LinkUp (s .dev .clock .0) (nanosOf (entryOf setup i .«dl_up») .0)
+  pub after-link-up : (i : ℕ) → s .port .link ≡ false → i < setup .slots
+      → statusAt (run setup defaults s kind.LinkUp .after .statuses) i ≡ pendingFor cause.LinkUp (s .port .clock .0) (nanosOf (entryOf setup i .«dl_up») .0)
   unfolding run
   after-link-up i e h = by (effect setup defaults s kind.LinkUp) (link-up setup defaults s e (omega arith) n)
     where
       time : ℕ
       time = nanosOf (entryOf setup i .«dl_up») .0
 
-      by : (x : Effect State) → Does (LinkedUp setup s) x → statusAt (answered setup s x .after .statuses) i ≡ pendingFor cause.LinkUp (s .dev .clock .0) time
+      by : (x : Effect State) → Does (LinkedUp setup s) x → statusAt (answered setup s x .after .statuses) i ≡ pendingFor cause.LinkUp (s .port .clock .0) time
       by (refused completion d) l = absurd l
       by (does t tally d) l =
-          settled-at t tally d i ∙ ap (λ (v : Status). record { phase = phaseBy (t .dev .clock) (v .phase) }) (l .0 .slots i h)
-          ∙ ap (λ (clock : Nanos). record { phase = phaseBy clock (Pending cause.LinkUp (at (s .dev .clock .0 + time))) }) (l .0 .clock) ∙ for-time (s .dev .clock) cause.LinkUp time
+          settled-at t tally d i ∙ ap (λ (v : Status). record { phase = phaseBy (t .port .clock) (v .phase) }) (l .0 .slots i h)
+          ∙ ap (λ (clock : Nanos). record { phase = phaseBy clock (Pending cause.LinkUp (at (s .port .clock .0 + time))) }) (l .0 .clock) ∙ for-time (s .port .clock) cause.LinkUp time
 
   -- a write that is answered 0
   module _ (q : Request) (value : ℕ) (done : statusOf setup defaults s (kind.Write q value) ≡ 0) where
@@ -92,12 +92,12 @@ module _ (setup : Setup) (defaults : List ℕ) (s : State) (c : s .dev .clock .0
     access : isAccess (routed setup s false q) ≡ true
     access = answered-0 setup defaults s false q value done
 
-    left-is : left ≡ record { phase = phaseBy (s .dev .clock) (seatWritten setup defaults s q value .status .phase) }
+    left-is : left ≡ record { phase = phaseBy (s .port .clock) (seatWritten setup defaults s q value .status .phase) }
     unfolding run effect writeEffect
     left-is =
         let y = seatWritten setup defaults s q value in
         let r = routed setup s false q in
-        let slot = access-facts (setup .slots) (slotKind setup (q .slot)) (s .dev) (statusAt (s .statuses) (q .slot)) false q access .0 .slot in
+        let slot = access-facts (setup .slots) (slotKind setup (q .slot)) (s .port) (statusAt (s .statuses) (q .slot)) false q access .0 .slot in
         ap (λ (b : Bool).
         statusAt (answered setup s (atSlot s (q .slot)
         (cond b (writeDone (slotKind setup (q .slot)) (entryOf setup (q .slot)) defaults q value (seatOf s (q .slot))) (refused (routeCompletion r) (refusedData false (q .enables) r))))
@@ -105,33 +105,33 @@ module _ (setup : Setup) (defaults : List ℕ) (s : State) (c : s .dev .clock .0
         ∙ settled-at (putBack s (q .slot) y) noTally 0 (q .slot)
         ∙ ap (λ (d : Dev). record { phase = phaseBy (d .clock) (statusAt (set (s .statuses) (q .slot) (y .status)) (q .slot) .phase) })
         (write-dev (slotKind setup (q .slot)) (entryOf setup (q .slot)) defaults q value (seatOf s (q .slot)))
-        ∙ ap (λ (v : Status). record { phase = phaseBy (s .dev .clock) (v .phase) }) (getD-set-same (s .statuses) (q .slot) (y .status) ready (omega arith))
+        ∙ ap (λ (v : Status). record { phase = phaseBy (s .port .clock) (v .phase) }) (getD-set-same (s .statuses) (q .slot) (y .status) ready (omega arith))
 
     -- One that starts an FLR: Pending until c + T with T its slot's FLR Time, in progress until c + min(T, 100,000,000).
     pub after-flr : flr ≡ true
-        → (let t = nanosOf (entryOf setup (q .slot) .flr) .0 in left ≡ pendingFor (cause.Flr (at (s .dev .clock .0 + min t 100000000))) (s .dev .clock .0) t)
+        → (let t = nanosOf (entryOf setup (q .slot) .flr) .0 in left ≡ pendingFor (cause.Flr (at (s .port .clock .0 + min t 100000000))) (s .port .clock .0) t)
     after-flr e =
         left-is
-        ∙ ap (λ (v : Status). record { phase = phaseBy (s .dev .clock) (v .phase) })
+        ∙ ap (λ (v : Status). record { phase = phaseBy (s .port .clock) (v .phase) })
         (write-starts-flr (slotKind setup (q .slot)) (entryOf setup (q .slot)) defaults q value (seatOf s (q .slot)) (omega arith) e)
-        ∙ for-time (s .dev .clock) _ _
+        ∙ for-time (s .port .clock) _ _
 
     -- One that takes PowerState of 44h from 3 to 0: Pending until c + its slot's D3hot time.
-    pub after-d3hot : From3To0 (q .word) old new → left ≡ pendingFor cause.D3hot (s .dev .clock .0) (nanosOf (entryOf setup (q .slot) .d3hot) .0)
+    pub after-d3hot : From3To0 (q .word) old new → left ≡ pendingFor cause.D3hot (s .port .clock .0) (nanosOf (entryOf setup (q .slot) .d3hot) .0)
     after-d3hot h =
         left-is
-        ∙ ap (λ (v : Status). record { phase = phaseBy (s .dev .clock) (v .phase) })
+        ∙ ap (λ (v : Status). record { phase = phaseBy (s .port .clock) (v .phase) })
         (write-starts-d3hot (slotKind setup (q .slot)) (entryOf setup (q .slot)) defaults q value (seatOf s (q .slot)) (omega arith) h)
-        ∙ for-time (s .dev .clock) _ _
+        ∙ for-time (s .port .clock) _ _
 
     -- Any other: Ready, as it was.
     pub after-other : flr ≡ false → (From3To0 (q .word) old new → ⊥) → left ≡ ready
     after-other e f =
         left-is
-        ∙ ap (λ (v : Status). record { phase = phaseBy (s .dev .clock) (v .phase) })
+        ∙ ap (λ (v : Status). record { phase = phaseBy (s .port .clock) (v .phase) })
         (write-starts-nothing (slotKind setup (q .slot)) (entryOf setup (q .slot)) defaults q value (seatOf s (q .slot)) e f)
-        ∙ ap (λ (p : Phase). record { phase = phaseBy (s .dev .clock) p })
-        (access-facts (setup .slots) (slotKind setup (q .slot)) (s .dev) (statusAt (s .statuses) (q .slot)) false q access .2)
+        ∙ ap (λ (p : Phase). record { phase = phaseBy (s .port .clock) p })
+        (access-facts (setup .slots) (slotKind setup (q .slot)) (s .port) (statusAt (s .statuses) (q .slot)) false q access .2)
 
 -- ---- how long an FLR is answered 18
 
@@ -142,20 +142,20 @@ not-18 NotVendorId e = omega arith
 
 -- A request to a slot in which an FLR started is answered 18 exactly while the clock is before the FLR's end.
 pub flr-18-exactly : (setup : Setup) (defaults : List ℕ) (s : State) (isRead : Bool) (q : Request) (value : ℕ) (end t : Nanos)
-    → Looked (setup .slots) q → s .dev .link ≡ true → statusAt (s .statuses) (q .slot) .phase ≡ Pending (cause.Flr end) t
-    → (statusOf setup defaults s (request isRead q value) ≡ 18) ↔ (s .dev .clock .0 < end .0)
+    → Looked (setup .slots) q → s .port .link ≡ true → statusAt (s .statuses) (q .slot) .phase ≡ Pending (cause.Flr end) t
+    → (statusOf setup defaults s (request isRead q value) ≡ 18) ↔ (s .port .clock .0 < end .0)
 unfolding phaseRoute
 flr-18-exactly setup defaults s isRead q value end t h up p =
-    (λ e. by e (ltb (s .dev .clock .0) (end .0)) refl, λ l. status-18-flr setup defaults s isRead q value end t h up p l)
+    (λ e. by e (ltb (s .port .clock .0) (end .0)) refl, λ l. status-18-flr setup defaults s isRead q value end t h up p l)
   where
-    by : statusOf setup defaults s (request isRead q value) ≡ 18 → (b : Bool) → ltb (s .dev .clock .0) (end .0) ≡ b → s .dev .clock .0 < end .0
-    by e true b = ltb-true (s .dev .clock .0) (end .0) b
+    by : statusOf setup defaults s (request isRead q value) ≡ 18 → (b : Bool) → ltb (s .port .clock .0) (end .0) ≡ b → s .port .clock .0 < end .0
+    by e true b = ltb-true (s .port .clock .0) (end .0) b
     by e false b =
         absurd
-        (not-18 (crsOf (s .dev .control .visibility) isRead q)
+        (not-18 (crsOf (s .port .control .visibility) isRead q)
         (sym (ap completionNumber
         (request-completion setup defaults s isRead q value
         ∙ ap routeCompletion
-        (by-phase (setup .slots) (slotKind setup (q .slot)) (s .dev) (statusAt (s .statuses) (q .slot)) isRead q h up (Pending (cause.Flr end) t) p
-        ∙ no-longer (s .dev .clock) end t (crsOf (s .dev .control .visibility) isRead q) (ltb-false (s .dev .clock .0) (end .0) b))))
+        (by-phase (setup .slots) (slotKind setup (q .slot)) (s .port) (statusAt (s .statuses) (q .slot)) isRead q h up (Pending (cause.Flr end) t) p
+        ∙ no-longer (s .port .clock) end t (crsOf (s .port .control .visibility) isRead q) (ltb-false (s .port .clock .0) (end .0) b))))
         ∙ e))

@@ -17,7 +17,7 @@ use Rattle.records.specs.Run.{effect}
 -- an FRS that comes as a message; with a DRS, the port's own if it is signalled so
 abbrev pub ofMessage : Setup → State → Message → List queueFrs.Frs
 ofMessage setup s NotReadiness = []
-ofMessage setup s (Drs id) = frsOfDrs (setup .«port_id») (s .dev)
+ofMessage setup s (Drs id) = frsOfDrs (setup .«port_id») (s .port)
 ofMessage setup s (Frs id reason) = record { id = id; reason = reason } ∷ []
 
 abbrev pub ofRecord : Setup → State → Record → List queueFrs.Frs

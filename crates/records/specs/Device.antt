@@ -13,7 +13,7 @@ use Rattle.records.specs.Run.{run}
 
 -- the state after a record and its answer's 8 bytes
 unfoldable pub inBytes : Ran State → RanBytes State
-inBytes x = record { dev = x .after; answer = answerBytes (x .reply) }
+inBytes x = record { state = x .after; answer = answerBytes (x .reply) }
 
 pub eight-bytes : (x : Ran State) → length (inBytes x .answer) ≡ 8
 unfolding inBytes answerBytes

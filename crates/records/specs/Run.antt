@@ -22,7 +22,7 @@ atPort s (refused completion dataWord) = refused completion dataWord
 atPort s (does p tally dataWord) = does (state (p .dev) (s .statuses) (s .live) (p .cells)) tally dataWord
 
 abbrev pub frontOf : State → Front
-frontOf s = front (s .dev) (s .cells)
+frontOf s = front (s .port) (s .cells)
 
 -- what each record does
 unfoldable pub effect : Setup → (defaults : List ℕ) → State → Record → Effect State

@@ -66,7 +66,7 @@ soundOwed setup d l = not (d .owed) || (d .link && not (allReady setup l))
 -- all of it
 unfoldable pub sound : Setup → State → Bool
 sound setup s =
-    let d = s .dev in
+    let d = s .port in
     let q = d .queue in
     leb (d .clock .0) clockEnd
     && ltb (q .start) (length (s .cells))
@@ -79,25 +79,25 @@ sound setup s =
 -- nothing that 5 lists, point by point
 pub record Sound (setup : Setup) (s : State) : Type 0 where
   -- the clock is at most 10^15
-  pub clock : s .dev .clock .0 ≤ clockEnd
+  pub clock : s .port .clock .0 ≤ clockEnd
   -- the queue's start is below its length, its depth at most that
-  pub start : s .dev .queue .start < length (s .cells)
-  pub depth : s .dev .queue .depth ≤ length (s .cells)
+  pub start : s .port .queue .start < length (s .cells)
+  pub depth : s .port .queue .depth ≤ length (s .cells)
   -- a live cell is below 2^20
-  pub cells : (k : ℕ) → k < s .dev .queue .depth → getD (s .cells) (placeOf (length (s .cells)) (s .dev .queue .start) k) 0 < 1048576
+  pub cells : (k : ℕ) → k < s .port .queue .depth → getD (s .cells) (placeOf (length (s .cells)) (s .port .queue .start) k) 0 < 1048576
   -- signalling isn't 3
-  pub signalling : s .dev .control .signalling ≤ 2
+  pub signalling : s .port .control .signalling ≤ 2
   -- a Pending slot's ready time is after the clock, and at most 1,006,632,960 after it
-  pub later : (i : ℕ) (cause : Cause) (t : Nanos) → i < setup .slots → phaseAt s i ≡ Pending cause t → s .dev .clock .0 < t .0
-  pub most : (i : ℕ) (cause : Cause) (t : Nanos) → i < setup .slots → phaseAt s i ≡ Pending cause t → t .0 ≤ s .dev .clock .0 + 1006632960
+  pub later : (i : ℕ) (cause : Cause) (t : Nanos) → i < setup .slots → phaseAt s i ≡ Pending cause t → s .port .clock .0 < t .0
+  pub most : (i : ℕ) (cause : Cause) (t : Nanos) → i < setup .slots → phaseAt s i ≡ Pending cause t → t .0 ≤ s .port .clock .0 + 1006632960
   -- an FLR end isn't after its ready time
   pub flrEnd : (i : ℕ) (end t : Nanos) → i < setup .slots → phaseAt s i ≡ Pending (Flr end) t → end .0 ≤ t .0
   -- a Down slot only with the link down, any other only with it up
-  pub linkDown : (i : ℕ) → i < setup .slots → phaseAt s i ≡ Down → s .dev .link ≡ false
-  pub linkUp : (i : ℕ) → i < setup .slots → phaseAt s i ≢ Down → s .dev .link ≡ true
+  pub linkDown : (i : ℕ) → i < setup .slots → phaseAt s i ≡ Down → s .port .link ≡ false
+  pub linkUp : (i : ℕ) → i < setup .slots → phaseAt s i ≢ Down → s .port .link ≡ true
   -- a DRS is owed only with the link up, and not with every slot Ready
-  pub owedLink : s .dev .owed ≡ true → s .dev .link ≡ true
-  pub owedSlots : s .dev .owed ≡ true → ((i : ℕ) → phaseAt s i ≡ Ready) → ⊥
+  pub owedLink : s .port .owed ≡ true → s .port .link ≡ true
+  pub owedSlots : s .port .owed ≡ true → ((i : ℕ) → phaseAt s i ≡ Ready) → ⊥
 
 -- the card's slots, their registers, and nothing but Ready past the last slot
 pub record Fitting (setup : Setup) (defaults : List ℕ) (s : State) : Type 0 where

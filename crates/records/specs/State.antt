@@ -15,13 +15,13 @@ use Rattle.readiness.specs.Settle.{Scene}
 
 -- the clock, the link and the port's part; the slot statuses; the live registers, 64 words to a slot; the queue cells
 pub record State : Type 0 where
-  pub dev : Dev
+  pub port : Dev
   pub statuses : List Status
   pub live : List ℕ
   pub cells : List ℕ
 
 abbrev pub state : Dev → List Status → (live cells : List ℕ) → State
-state dev statuses live cells = record { dev = dev; statuses = statuses; live = live; cells = cells }
+state port statuses live cells = record { port = port; statuses = statuses; live = live; cells = cells }
 
 -- a slot's status; what lies past the last slot counts as Ready
 abbrev pub statusAt : List Status → ℕ → Status
@@ -40,7 +40,7 @@ slotKind setup slot = kindOfEntry (entryOf setup slot)
 
 -- the root port of a state, with what the record has brought so far
 abbrev pub rootOf : State → Tally → Root
-rootOf s tally = record { dev = s .dev; cells = s .cells; tally = tally }
+rootOf s tally = record { dev = s .port; cells = s .cells; tally = tally }
 
 abbrev pub sceneOf : State → Tally → Scene
 sceneOf s tally = record { statuses = s .statuses; root = rootOf s tally }
@@ -60,7 +60,7 @@ abbrev pub seat : Dev → Status → (live cells : List ℕ) → Seat
 seat dev status live cells = record { dev = dev; status = status; live = live; cells = cells }
 
 abbrev pub seatOf : State → (slot : ℕ) → Seat
-seatOf s slot = seat (s .dev) (statusAt (s .statuses) slot) (s .live) (s .cells)
+seatOf s slot = seat (s .port) (statusAt (s .statuses) slot) (s .live) (s .cells)
 
 abbrev pub putBack : State → (slot : ℕ) → Seat → State
 putBack s slot z = state (z .dev) (set (s .statuses) slot (z .status)) (z .live) (z .cells)

@@ -63,7 +63,7 @@ cut-unknown = refl
 
 -- ---- a toy device: its state is a number, to which each record adds its kind; it answers the kind, the length, the second byte and the state before
 unfoldable toyRun : ℕ → List ℕ → Ran ℕ
-toyRun s r = record { dev = s + getD r 0 0; answer = getD r 0 0 ∷ length r ∷ getD r 1 0 ∷ s ∷ 0 ∷ 0 ∷ 0 ∷ 0 ∷ [] }
+toyRun s r = record { state = s + getD r 0 0; answer = getD r 0 0 ∷ length r ∷ getD r 1 0 ∷ s ∷ 0 ∷ 0 ∷ 0 ∷ 0 ∷ [] }
 
 toyEight : (s : ℕ) (r : List ℕ) → length (toyRun s r .answer) ≡ 8
 unfolding toyRun
@@ -74,7 +74,7 @@ toy = record { run = toyRun; eight = toyEight }
 
 -- as code keeps it: 16 bytes and a count
 record Port : Type 0 where
-  dev : ℕ
+  state : ℕ
   carried : List ℕ
   count : ℕ
   broken : Bool
@@ -84,10 +84,10 @@ abbrev lent : Lent ℕ Port
 lent =
     record {
       device = toy;
-      setUp = λ h. if eqb (h .dev) 0 then 3 else 0;
+      setUp = λ h. if eqb (h .state) 0 then 3 else 0;
       sound = λ h. leb (h .count) 16 && begun (take (h .count) (h .carried));
-      view = λ h. record { dev = h .dev; carried = take (h .count) (h .carried); broken = h .broken };
-      keep = λ p. record { dev = p .dev; carried = pad 16 (p .carried); count = length (p .carried); broken = p .broken };
+      view = λ h. record { state = h .state; carried = take (h .count) (h .carried); broken = h .broken };
+      keep = λ p. record { state = p .state; carried = pad 16 (p .carried); count = length (p .carried); broken = p .broken };
     }
 
 -- the theorem holds of it
@@ -106,12 +106,12 @@ keeps : (h : Port) → Keeps lent h Good
 unfolding toyRun
 keeps h =
     record {
-      good = λ e. set-up-good (h .dev) (refusal-accepted lent h e .0);
+      good = λ e. set-up-good (h .state) (refusal-accepted lent h e .0);
       carries = λ e. both-right (leb (h .count) 16) (begun (take (h .count) (h .carried))) (refusal-accepted lent h e .1);
       run = λ s r w b g. ne-eqb (s + getD r 0 0) 0 (λ e. omega (arith, positive s g));
-      kept = λ p g b. λ i. record { dev = p .dev; carried = take-pad 16 (p .carried) i; broken = p .broken };
+      kept = λ p g b. λ i. record { state = p .state; carried = take-pad 16 (p .carried) i; broken = p .broken };
       accepted = λ p g b.
-          refusal-none lent (lent .keep p) (if-false (eqb (p .dev) 0) 3 0 g)
+          refusal-none lent (lent .keep p) (if-false (eqb (p .state) 0) 3 0 g)
           (rw (le-leb (length (p .carried)) 16 (begun-short (p .carried) b), take-pad 16 (p .carried), b));
     }
 
@@ -120,7 +120,7 @@ toy-claim h = claim lent h Good (keeps h)
 
 -- ---- seven calls. 05, 01 0A 00 00 00, 0A 07 and 0D run; then an unknown kind, 77h. Every answer byte is EEh before its call, and what lies past the carried bytes is anything
 abbrev started : Port
-started = record { dev = 1; carried = replicate 16 9; count = 0; broken = false }
+started = record { state = 1; carried = replicate 16 9; count = 0; broken = false }
 
 abbrev cs : List Call
 cs =
@@ -159,7 +159,7 @@ together : calls lent started cs
           ∷ replicate 10 0xEE
           ∷ []
           ∷ [];
-      held = record { dev = 30; carried = replicate 16 0; count = 0; broken = true };
+      held = record { state = 30; carried = replicate 16 0; count = 0; broken = true };
     }
 unfolding calls feeds refusalOr31 refusal feedOpen byte begun known body sizeOf toyRun
 together = refl
@@ -167,7 +167,7 @@ together = refl
 -- the plain bench on the bytes consumed
 plainly : plain toy 1 (5 ∷ 1 ∷ 0x0A ∷ 0 ∷ 0 ∷ 0 ∷ 0x0A ∷ 7 ∷ 0x0D ∷ [])
     ≡ record {
-      dev = 30;
+      state = 30;
       carried = [];
       answers = 5 ∷ 1 ∷ 0 ∷ 1 ∷ 0 ∷ 0 ∷ 0 ∷ 0 ∷ 1 ∷ 5 ∷ 10 ∷ 6 ∷ 0 ∷ 0 ∷ 0 ∷ 0 ∷ 10 ∷ 2 ∷ 7 ∷ 7 ∷ 0 ∷ 0 ∷ 0 ∷ 0 ∷ 13 ∷ 1 ∷ 0 ∷ 17 ∷ 0 ∷ 0 ∷ 0 ∷ 0 ∷ [];
     }
@@ -180,7 +180,7 @@ unfolding expectedFrom outcomeOf outcome scan unknownNext plain runs cut cutIn w
 foreseen = refl
 
 -- an incomplete record is carried and does nothing else: after the first two calls the state is the sum of 1, 5 and 1
-carried-on : calls lent started (take 2 cs) .held ≡ record { dev = 7; carried = 0x0A ∷ replicate 15 0; count = 1; broken = false }
+carried-on : calls lent started (take 2 cs) .held ≡ record { state = 7; carried = 0x0A ∷ replicate 15 0; count = 1; broken = false }
 unfolding calls feeds refusalOr31 refusal feedOpen byte begun known body sizeOf toyRun
 carried-on = refl
 
@@ -199,10 +199,10 @@ unfolding outcome scan unknownNext cut cutIn whole known body sizeOf
 eight = refl
 
 -- ---- refusals: first the set-up's, also where the port is unsound and broken; then 5, also where it is broken; nothing changes
-not-set-up : let h : Port = record { dev = 0; carried = replicate 16 9; count = 17; broken = true } in calls lent h cs ≡ allRefused 3 h cs
+not-set-up : let h : Port = record { state = 0; carried = replicate 16 9; count = 17; broken = true } in calls lent h cs ≡ allRefused 3 h cs
 unfolding calls feeds refusalOr31 refusal begun known body sizeOf
 not-set-up = refl
 
-not-sound : let h : Port = record { dev = 1; carried = 5 ∷ replicate 15 9; count = 1; broken = true } in calls lent h cs ≡ allRefused 5 h cs
+not-sound : let h : Port = record { state = 1; carried = 5 ∷ replicate 15 9; count = 1; broken = true } in calls lent h cs ≡ allRefused 5 h cs
 unfolding calls feeds refusalOr31 refusal begun known body sizeOf
 not-sound = refl

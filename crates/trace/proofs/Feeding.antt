@@ -19,12 +19,12 @@ use Rattle.trace.proofs.Cutting.{Partial, cut-partial, cut-last, cut-un
 module _ {S : Type 0} (D : Device S) where
   -- what a byte does, in each of the four cases
   pub byte-unknown : (p : Bench S) (room b : ℕ) → known (kindAt (p .carried) b) ≡ false
-      → byte D p room b ≡ stop 31 (record { dev = p .dev; carried = p .carried; broken = true })
+      → byte D p room b ≡ stop 31 (record { state = p .state; carried = p .carried; broken = true })
   unfolding byte
   byte-unknown p room b e = rw e
 
   pub byte-carries : (p : Bench S) (room b : ℕ) → known (kindAt (p .carried) b) ≡ true → length (p .carried) < body (kindAt (p .carried) b)
-      → byte D p room b ≡ took (record { dev = p .dev; carried = p .carried ++ b ∷ []; broken = false }) []
+      → byte D p room b ≡ took (record { state = p .state; carried = p .carried ++ b ∷ []; broken = false }) []
   unfolding byte
   byte-carries p room b e j = rw (e, lt-ltb _ _ j)
 
@@ -34,20 +34,20 @@ module _ {S : Type 0} (D : Device S) where
   byte-full p room b e j r = rw (e, le-ltb _ _ j, lt-ltb _ _ r)
 
   pub byte-ends : (p : Bench S) (room b : ℕ) → known (kindAt (p .carried) b) ≡ true → body (kindAt (p .carried) b) ≤ length (p .carried)
-      → 8 ≤ room → byte D p room b ≡ ranWith (D .run (p .dev) (p .carried ++ b ∷ []))
+      → 8 ≤ room → byte D p room b ≡ ranWith (D .run (p .state) (p .carried ++ b ∷ []))
   unfolding byte
   byte-ends p room b e j r = rw (e, le-ltb _ _ j, le-ltb _ _ r)
 
   -- The ways that a byte can go, with what each one means
   pub data Way (p : Bench S) (room b : ℕ) : Type 0 where
     carries : known (kindAt (p .carried) b) ≡ true → length (p .carried) < body (kindAt (p .carried) b)
-        → byte D p room b ≡ took (record { dev = p .dev; carried = p .carried ++ b ∷ []; broken = false }) [] → Way p room b
+        → byte D p room b ≡ took (record { state = p .state; carried = p .carried ++ b ∷ []; broken = false }) [] → Way p room b
     full : known (kindAt (p .carried) b) ≡ true → body (kindAt (p .carried) b) ≤ length (p .carried) → room < 8
         → byte D p room b ≡ stop 30 p → Way p room b
     ends : known (kindAt (p .carried) b) ≡ true → body (kindAt (p .carried) b) ≤ length (p .carried) → 8 ≤ room
-        → byte D p room b ≡ ranWith (D .run (p .dev) (p .carried ++ b ∷ [])) → Way p room b
+        → byte D p room b ≡ ranWith (D .run (p .state) (p .carried ++ b ∷ [])) → Way p room b
     unknown : known (kindAt (p .carried) b) ≡ false
-        → byte D p room b ≡ stop 31 (record { dev = p .dev; carried = p .carried; broken = true }) → Way p room b
+        → byte D p room b ≡ stop 31 (record { state = p .state; carried = p .carried; broken = true }) → Way p room b
 
   pub way : (p : Bench S) (room b : ℕ) → Way p room b
   way p room b =
@@ -73,43 +73,43 @@ module _ {S : Type 0} (D : Device S) where
 
   -- the plain bench's laws
   abbrev pub left-as : Bench S → List ℕ → Benched S
-  left-as p a = record { dev = p .dev; carried = p .carried; answers = a }
+  left-as p a = record { state = p .state; carried = p .carried; answers = a }
 
   abbrev pub answered : List ℕ → Benched S → Benched S
-  answered a z = record { dev = z .dev; carried = z .carried; answers = a ++ z .answers }
+  answered a z = record { state = z .state; carried = z .carried; answers = a ++ z .answers }
 
-  pub plain-partial : (s : S) (c : List ℕ) → Partial c → plain D s c ≡ record { dev = s; carried = c; answers = [] }
+  pub plain-partial : (s : S) (c : List ℕ) → Partial c → plain D s c ≡ record { state = s; carried = c; answers = [] }
   unfolding plain runs
   plain-partial s c h = rw (cut-partial c h)
 
   plain-last : (s : S) (c : List ℕ) (b : ℕ) (more : List ℕ) → Partial c → known (kindAt c b) ≡ true → body (kindAt c b) ≤ length c
-      → plain D s (c ++ b ∷ more) ≡ answered (D .run s (c ++ b ∷ []) .answer) (plain D (D .run s (c ++ b ∷ []) .dev) more)
+      → plain D s (c ++ b ∷ more) ≡ answered (D .run s (c ++ b ∷ []) .answer) (plain D (D .run s (c ++ b ∷ []) .state) more)
   unfolding plain runs
   plain-last s c b more h e j = rw (cut-last c b more h e j)
 
   -- ON THE BYTES THAT IT CONSUMES, a call is the plain bench
   abbrev pub SameAsPlain : Bench S → ℕ → List ℕ → Type 0
   SameAsPlain p room input =
-      plain D (p .dev) (p .carried ++ take (feedOpen D p room input .consumed) input)
+      plain D (p .state) (p .carried ++ take (feedOpen D p room input .consumed) input)
       ≡ left-as (feedOpen D p room input .bench) (feedOpen D p room input .answers)
 
   pub feed-plain : (p : Bench S) (room : ℕ) (input : List ℕ) → Partial (p .carried) → SameAsPlain p room input
   unfolding feedOpen
-  feed-plain p room [] h = rw (append-nil (p .carried)) (plain-partial (p .dev) (p .carried) h)
+  feed-plain p room [] h = rw (append-nil (p .carried)) (plain-partial (p .state) (p .carried) h)
   feed-plain p room (b ∷ bs) h = go (way p room b) (λ p′ room′. feed-plain p′ room′ bs)
     where
       go : Way p room b → ((p′ : Bench S) (room′ : ℕ) → Partial (p′ .carried) → SameAsPlain p′ room′ bs) → SameAsPlain p room (b ∷ bs)
       go (carries e j w) ih =
           rw (w, one-add, ← append-snoc (p .carried) b _)
-          (ih (record { dev = p .dev; carried = p .carried ++ b ∷ []; broken = false }) (room - 0) (partial-more (p .carried) b h e j))
-      go (full e j r w) ih = rw (w, append-nil (p .carried)) (plain-partial (p .dev) (p .carried) h)
+          (ih (record { state = p .state; carried = p .carried ++ b ∷ []; broken = false }) (room - 0) (partial-more (p .carried) b h e j))
+      go (full e j r w) ih = rw (w, append-nil (p .carried)) (plain-partial (p .state) (p .carried) h)
       go (ends e j r w) ih =
-          let x = D .run (p .dev) (p .carried ++ b ∷ []) in
-          let q : Bench S = record { dev = x .dev; carried = []; broken = false } in
+          let x = D .run (p .state) (p .carried ++ b ∷ []) in
+          let q : Bench S = record { state = x .state; carried = []; broken = false } in
           rw (w, one-add)
-          (plain-last (p .dev) (p .carried) b (take (feedOpen D q (room - length (x .answer)) bs .consumed) bs) h e j
+          (plain-last (p .state) (p .carried) b (take (feedOpen D q (room - length (x .answer)) bs .consumed) bs) h e j
           ∙ ap (answered (x .answer)) (ih q (room - length (x .answer)) tt))
-      go (unknown e w) ih = rw (w, append-nil (p .carried)) (plain-partial (p .dev) (p .carried) h)
+      go (unknown e w) ih = rw (w, append-nil (p .carried)) (plain-partial (p .state) (p .carried) h)
 
   -- ITS OUTCOME is the scan's
   abbrev pub scanned : Cut → ℕ → Outcome
@@ -141,7 +141,7 @@ module _ {S : Type 0} (D : Device S) where
     where
       go : Way p room b → ((p′ : Bench S) (room′ : ℕ) → Partial (p′ .carried) → AsScanned p′ room′ bs) → AsScanned p room (b ∷ bs)
       go (carries e j w) ih =
-          let q : Bench S = record { dev = p .dev; carried = p .carried ++ b ∷ []; broken = false } in
+          let q : Bench S = record { state = p .state; carried = p .carried ++ b ∷ []; broken = false } in
           let i = ih q room (partial-more (p .carried) b h e j) in
           let s = append-snoc (p .carried) b bs in
           record {
@@ -158,11 +158,11 @@ module _ {S : Type 0} (D : Device S) where
             written = rw (w, q, t);
           }
       go (ends e j r w) ih =
-          let x = D .run (p .dev) (p .carried ++ b ∷ []) in
-          let i = ih (record { dev = x .dev; carried = []; broken = false }) (room - 8) tt in
+          let x = D .run (p .state) (p .carried ++ b ∷ []) in
+          let i = ih (record { state = x .state; carried = []; broken = false }) (room - 8) tt in
           let q = cut-last (p .carried) b bs h e j in
           let t = le-ltb room 8 r in
-          let l = D .eight (p .dev) (p .carried ++ b ∷ []) in
+          let l = D .eight (p .state) (p .carried ++ b ∷ []) in
           record {
             number = rw (w, q, t, l) (i .number);
             consumed = rw (w, q, t, l) (omega (arith, length-append (p .carried) (b ∷ []), i .consumed));

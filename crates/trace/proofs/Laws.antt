@@ -139,11 +139,11 @@ module _ {S : Type 0} (D : Device S) where
     where
       go : Way D p room b → ((p′ : Bench S) (room′ : ℕ) → Partial (p′ .carried) → EndOf p′ room′ bs) → EndOf p room (b ∷ bs)
       go (carries e j w) ih =
-          rw (w, sub-zero, one-add) (ih (record { dev = p .dev; carried = p .carried ++ b ∷ []; broken = false }) room (partial-more D (p .carried) b h e j))
+          rw (w, sub-zero, one-add) (ih (record { state = p .state; carried = p .carried ++ b ∷ []; broken = false }) room (partial-more D (p .carried) b h e j))
       go (full e j r w) ih = rw w (no-room b bs refl refl (next-last (p .carried) b h e j) (omega arith))
       go (ends e j r w) ih =
-          let x = D .run (p .dev) (p .carried ++ b ∷ []) in
-          let q : Bench S = record { dev = x .dev; carried = []; broken = false } in
+          let x = D .run (p .state) (p .carried ++ b ∷ []) in
+          let q : Bench S = record { state = x .state; carried = []; broken = false } in
           let a = feedOpen D q (room - length (x .answer)) bs .answers in
           let n : room - length (x .answer ++ a) ≡ room - length (x .answer) - length a = omega (arith, length-append (x .answer) a) in
           rw (w, one-add, n) (ih q (room - length (x .answer)) tt)
@@ -156,7 +156,7 @@ module _ {S : Type 0} (D : Device S) where
   eight-each-in s [] = refl
   eight-each-in s (r ∷ rs) =
       let x = D .run s r in
-      omega (arith, length-append (x .answer) (runs D (x .dev) rs .answer), D .eight s r, eight-each-in (x .dev) rs)
+      omega (arith, length-append (x .answer) (runs D (x .state) rs .answer), D .eight s r, eight-each-in (x .state) rs)
 
   -- EIGHT BYTES for each record completed, and no others
   pub eight-each : (s : S) (bs : List ℕ) → length (plain D s bs .answers) ≡ 8 * length (cut bs .wholes)
@@ -176,15 +176,15 @@ module _ {S : Type 0} (D : Device S) where
     where
       go : Way D p room b → ((p′ : Bench S) (room′ : ℕ) → Within room′ bs (feedOpen D p′ room′ bs)) → Within room (b ∷ bs) (feedOpen D p room (b ∷ bs))
       go (carries e j w) ih =
-          let i = ih (record { dev = p .dev; carried = p .carried ++ b ∷ []; broken = false }) room in
+          let i = ih (record { state = p .state; carried = p .carried ++ b ∷ []; broken = false }) room in
           rw (w, sub-zero) (record { consumed = omega (arith, i .consumed); written = i .written })
       go (full e j r w) ih = rw w (record { consumed = omega arith; written = omega arith })
       go (ends e j r w) ih =
-          let x = D .run (p .dev) (p .carried ++ b ∷ []) in
-          let i = ih (record { dev = x .dev; carried = []; broken = false }) (room - length (x .answer)) in
+          let x = D .run (p .state) (p .carried ++ b ∷ []) in
+          let i = ih (record { state = x .state; carried = []; broken = false }) (room - length (x .answer)) in
           rw w (record {
             consumed = omega (arith, i .consumed);
-            written = omega (arith, i .written, D .eight (p .dev) (p .carried ++ b ∷ []), length-append (x .answer) (feedOpen D (record { dev = x .dev; carried = []; broken = false }) (room - length (x .answer)) bs .answers));
+            written = omega (arith, i .written, D .eight (p .state) (p .carried ++ b ∷ []), length-append (x .answer) (feedOpen D (record { state = x .state; carried = []; broken = false }) (room - length (x .answer)) bs .answers));
           })
       go (unknown-kind e w) ih = rw w (record { consumed = omega arith; written = omega arith })
 
@@ -230,12 +230,12 @@ module _ {S H : Type 0} (L : Lent S H) where
     from-fresh cs f i =
         let z = calls L h cs in
         let q = claim L h Good K cs (rw (f .carries) tt) i in
-        let e : plain (L .device) (L .view h .dev) (L .view h .carried ++ z .bytes) ≡ plain (L .device) (L .view h .dev) (z .bytes) =
-        ap (λ (c : List ℕ). plain (L .device) (L .view h .dev) (c ++ z .bytes)) (f .carries) in
+        let e : plain (L .device) (L .view h .state) (L .view h .carried ++ z .bytes) ≡ plain (L .device) (L .view h .state) (z .bytes) =
+        ap (λ (c : List ℕ). plain (L .device) (L .view h .state) (c ++ z .bytes)) (f .carries) in
         let b = q .bench (f .accepted) in
         record {
           answers = q .answers (f .accepted) ∙ ap (λ (y : Benched S). y .answers) e;
-          device = ap (λ (p : Bench S). p .dev) b ∙ ap (λ (y : Benched S). y .dev) e;
+          device = ap (λ (p : Bench S). p .state) b ∙ ap (λ (y : Benched S). y .state) e;
           carried = ap (λ (p : Bench S). p .carried) b ∙ ap (λ (y : Benched S). y .carried) e;
           broken = ap (λ (p : Bench S). p .broken) b ∙ ap (λ (t : Bool). t || gave 31 (z .outcomes)) (f .unbroken);
         }
@@ -243,13 +243,13 @@ module _ {S H : Type 0} (L : Lent S H) where
     -- HOW A TRACE IS CUT INTO CALLS DOESN'T MATTER: two lists of calls that consume the same bytes give the same answers, and leave the same device and the same bytes carried
     pub cut-alike : (cs ds : List Call) → Fresh L h → BytesIn cs → BytesIn ds → calls L h cs .bytes ≡ calls L h ds .bytes
         → (calls L h cs .answers ≡ calls L h ds .answers)
-        × (L .view (calls L h cs .held) .dev ≡ L .view (calls L h ds .held) .dev)
+        × (L .view (calls L h cs .held) .state ≡ L .view (calls L h ds .held) .state)
         × (L .view (calls L h cs .held) .carried ≡ L .view (calls L h ds .held) .carried)
     cut-alike cs ds f i j e =
         let a = from-fresh cs f i in
         let b = from-fresh ds f j in
-        let p = ap (plain (L .device) (L .view h .dev)) e in (
+        let p = ap (plain (L .device) (L .view h .state)) e in (
           a .answers ∙ ap (λ (y : Benched S). y .answers) p ∙ sym (b .answers),
-          a .device ∙ ap (λ (y : Benched S). y .dev) p ∙ sym (b .device),
+          a .device ∙ ap (λ (y : Benched S). y .state) p ∙ sym (b .device),
           a .carried ∙ ap (λ (y : Benched S). y .carried) p ∙ sym (b .carried),
         )

@@ -76,7 +76,7 @@ end-few bs = few-by bs (next bs) refl
 pub record Ends {S : Type 0} (D : Device S) (s : S) (room : ℕ) (bs : List ℕ) (n m : ℕ) : Type 0 where
   pub short : m ≤ longest - 1
   pub there : m ≤ length bs
-  pub gives : feedOpen D (carrying s []) room bs ≡ later m [] (stopped n (record { dev = s; carried = take m bs; broken = eqb n 31 }))
+  pub gives : feedOpen D (carrying s []) room bs ≡ later m [] (stopped n (record { state = s; carried = take m bs; broken = eqb n 31 }))
 
 module _ {S : Type 0} (D : Device S) (s : S) (room : ℕ) (bs : List ℕ) where
   abbrev pub Found : Next → Type 0
@@ -144,7 +144,7 @@ module _ {S H : Type 0} (L : Lent S H) (Good : S → Type 0) (keeps : RunKeeps (
   module _ (answers : List ℕ) (s : S) (at w : ℕ) (v : Inv answers s at w) where
     -- a record's turn: x is what it does, and its answer is written
     pub turns : (size : ℕ) (t : Got (drop at trace) size) (x : Ran S) → x ≡ D .run s (t .whole) → 8 ≤ length room - w
-        → Inv (paste answers w (x .answer) 8) (x .dev) (at + size) (w + 8)
+        → Inv (paste answers w (x .answer) 8) (x .state) (at + size) (w + 8)
     turns size t x e j =
         let r = t .whole in
         let a = x .answer in
@@ -152,7 +152,7 @@ module _ {S H : Type 0} (L : Lent S H) (Good : S → Type 0) (keeps : RunKeeps (
         let rb : Bytes r = rw (t .is .is) (bytes-take (suc (body (kindAt (drop at trace) 0))) (drop at trace) (bytes-drop at trace (v .bytes))) in
         let n : length room - w - 8 ≡ length room - (w + 8) = omega arith in
         let ta : take 8 a ≡ a = rw (← a8) (take-length a) in
-        let z = feedOpen D (carrying (x .dev) []) (length room - (w + 8)) (drop (at + size) trace) in
+        let z = feedOpen D (carrying (x .state) []) (length room - (w + 8)) (drop (at + size) trace) in
         let one : feedOpen D (carrying s []) (length room - w) (drop at trace) ≡ later (size) a z =
         feed-complete D s (drop at trace) r (length room - w) (t .is) j ∙ rw (← e, n, drop-drop (length r) at trace, ← t .count) in
         record {
@@ -176,7 +176,7 @@ module _ {S H : Type 0} (L : Lent S H) (Good : S → Type 0) (keeps : RunKeeps (
     -- the call's end
     module _ (n m : ℕ) (z : Ends D s (length room - w) (drop at trace) n m) where
       abbrev pub last : Bench S
-      last = record { dev = s; carried = take m (drop at trace); broken = eqb n 31 }
+      last = record { state = s; carried = take m (drop at trace); broken = eqb n 31 }
 
       same-call : later (length c₀) [] call ≡ later at (take w answers) (later m [] (stopped n last))
       same-call = v .so-far ∙ ap (later at (take w answers)) (z .gives)
@@ -203,9 +203,9 @@ module _ {S H : Type 0} (L : Lent S H) (Good : S → Type 0) (keeps : RunKeeps (
           }
 
       -- what the code then gives is the call, on the lent memory h that stands for that start
-      pub finish : (len : ℕ) → length c₀ ≡ len → (h : H) → L .view h .dev ≡ s₀ → L .view h .carried ≡ c₀ → refusalOr31 L h ≡ 0
+      pub finish : (len : ℕ) → length c₀ ≡ len → (h : H) → L .view h .state ≡ s₀ → L .view h .carried ≡ c₀ → refusalOr31 L h ≡ 0
           → record { number = n; consumed = at + m - len; written = w; held = L .keep last; answers = answers } ≡ feeds L h input room
       finish len l h es ec e =
           let b = goes-on L h e .1 in
-          let p : L .view h ≡ carrying s₀ c₀ = λ i. record { dev = es i; carried = ec i; broken = b i } in
+          let p : L .view h ≡ carrying s₀ c₀ = λ i. record { state = es i; carried = ec i; broken = b i } in
           leaves-so len l ∙ sym (feeds-open L h input room e ∙ ap (λ (q : Bench S). leaves L (feedOpen D q (length room) input) room) p)

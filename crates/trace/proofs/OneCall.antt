@@ -31,14 +31,14 @@ fedOutcome f = record { number = f .number; consumed = f .consumed; written = le
 
 module _ {S : Type 0} (D : Device S) where
   runs-append : (s : S) (rs qs : List (List ℕ))
-      → runs D s (rs ++ qs) ≡ record { dev = runs D (runs D s rs .dev) qs .dev; answer = runs D s rs .answer ++ runs D (runs D s rs .dev) qs .answer }
+      → runs D s (rs ++ qs) ≡ record { state = runs D (runs D s rs .state) qs .state; answer = runs D s rs .answer ++ runs D (runs D s rs .state) qs .answer }
   unfolding runs
   runs-append s [] qs = refl
-  runs-append s (r ∷ rs) qs = rw (runs-append (D .run s r .dev) rs qs, append-assoc)
+  runs-append s (r ∷ rs) qs = rw (runs-append (D .run s r .state) rs qs, append-assoc)
 
   -- the plain bench on a trace in two parts
   pub plain-append : (s : S) (xs ys : List ℕ)
-      → plain D s (xs ++ ys) ≡ answered D (plain D s xs .answers) (plain D (plain D s xs .dev) (plain D s xs .carried ++ ys))
+      → plain D s (xs ++ ys) ≡ answered D (plain D s xs .answers) (plain D (plain D s xs .state) (plain D s xs .carried ++ ys))
   unfolding plain
   plain-append s xs ys = rw (cut-append xs ys, runs-append s (cut xs .wholes) _)
 
@@ -70,7 +70,7 @@ module _ {S : Type 0} (D : Device S) where
       go (unknown e w) ih = rw w
 
   pub record OneCall (p : Bench S) (room : ℕ) (input : List ℕ) : Type 0 where
-    pub same : plain D (p .dev) (p .carried ++ take (feed D p room input .consumed) input) ≡ left-as D (feed D p room input .bench) (feed D p room input .answers)
+    pub same : plain D (p .state) (p .carried ++ take (feed D p room input .consumed) input) ≡ left-as D (feed D p room input .bench) (feed D p room input .answers)
     pub scans : fedOutcome (feed D p room input) ≡ outcome (p .carried) (p .broken) input room
     pub breaks : feed D p room input .bench .broken ≡ (p .broken || eqb (feed D p room input .number) 31)
     pub partial : Partial (feed D p room input .bench .carried)
@@ -102,7 +102,7 @@ module _ {S : Type 0} (D : Device S) where
       go true e =
           let f = feed-shut p room input e in
           record {
-            same = rw (f, append-nil (p .carried)) (plain-partial D (p .dev) (p .carried) h);
+            same = rw (f, append-nil (p .carried)) (plain-partial D (p .state) (p .carried) h);
             scans = rw f (shut-scans p room input ∙ ap (λ (t : Bool). outcome (p .carried) t input room) (sym e));
             breaks = rw f (e ∙ sym (ap (λ (t : Bool). t || true) e));
             partial = rw f h;
@@ -121,7 +121,7 @@ module _ {S : Type 0} (D : Device S) where
     pub record Kept (p : Bench S) : Type 0 where
       pub partial : Partial (p .carried)
       pub bytes : Bytes (p .carried)
-      pub good : Good (p .dev)
+      pub good : Good (p .state)
 
     pub open-keeps : (p : Bench S) (room : ℕ) (input : List ℕ) → Kept p → Bytes input → Kept (feedOpen D p room input .bench)
     unfolding feedOpen
@@ -137,6 +137,6 @@ module _ {S : Type 0} (D : Device S) where
             rw w (ih _ _ (record {
               partial = tt;
               bytes = tt;
-              good = keeps (p .dev) (p .carried ++ b ∷ []) (next-last (p .carried) b (g .partial) e j) (bytes-append (p .carried) (b ∷ []) (g .bytes) (i .0, tt)) (g .good);
+              good = keeps (p .state) (p .carried ++ b ∷ []) (next-last (p .carried) b (g .partial) e j) (bytes-append (p .carried) (b ∷ []) (g .bytes) (i .0, tt)) (g .good);
             }))
         go (unknown e w) ih = rw w (record { partial = g .partial; bytes = g .bytes; good = g .good })

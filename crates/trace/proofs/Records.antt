@@ -18,7 +18,7 @@ use Rattle.trace.proofs.Feeding.{byte-unknown, byte-carries, byte-full,
 
 -- a port that is not broken
 abbrev pub carrying : {S : Type 0} → S → List ℕ → Bench S
-carrying s c = record { dev = s; carried = c; broken = false }
+carrying s c = record { state = s; carried = c; broken = false }
 
 pub later-zero : {S : Type 0} (f : Fed S) → later 0 [] f ≡ f
 later-zero f = λ i. record { bench = f .bench; number = f .number; consumed = zero-add (f .consumed) i; answers = f .answers }
@@ -122,13 +122,13 @@ module _ {S : Type 0} (D : Device S) where
     -- a complete record runs, where there is room for its answer
     pub feed-complete : 8 ≤ room
         → feedOpen D (carrying s []) room bs
-        ≡ later (length r) (D .run s r .answer) (feedOpen D (carrying (D .run s r .dev) []) (room - 8) (drop (length r) bs))
+        ≡ later (length r) (D .run s r .answer) (feedOpen D (carrying (D .run s r .state) []) (room - 8) (drop (length r) bs))
     unfolding feedOpen
     feed-complete j =
         let l = length-take-le size bs (omega (arith, h .fits)) in
         let e : take size bs ++ getD bs size 0 ∷ [] ≡ r = sym (take-suc bs size 0 (h .fits)) ∙ sym (h .is) in
         let w = byte-ends D (carrying s (take size bs)) room (getD bs size 0) (rw same-kind (h .kind)) (rw same-kind (omega arith)) j in
-        let z = feedOpen D (carrying (D .run s r .dev) []) (room - 8) (drop (suc size) bs) in
+        let z = feedOpen D (carrying (D .run s r .state) []) (room - 8) (drop (suc size) bs) in
         rw length-r
         (to-last ∙ rw (w, e, D .eight s r) (later-later size 1 [] (D .run s r .answer) z ∙ ap (λ (n : ℕ). later n (D .run s r .answer) z) (add-one size)))
 
@@ -152,7 +152,7 @@ module _ {S : Type 0} (D : Device S) where
 
   -- an unknown kind breaks the port
   pub feed-unknown : (s : S) (bs : List ℕ) (room : ℕ) → next bs ≡ unknown
-      → feedOpen D (carrying s []) room bs ≡ stopped 31 (record { dev = s; carried = []; broken = true })
+      → feedOpen D (carrying s []) room bs ≡ stopped 31 (record { state = s; carried = []; broken = true })
   unfolding feedOpen next
   feed-unknown s [] room e = absurd (let z : _≡_ {A = ℕ} 0 1 = cc in omega arith)
   feed-unknown s (k ∷ rest) room e = rw (byte-unknown D (carrying s []) room k (unknown-is k rest (known k) (leb (body k) (length rest)) refl e))

@@ -42,12 +42,12 @@ module _ {S H : Type 0} (L : Lent S H) where
   -- a call on one whole record, with room for its answer and no more
   pub one-record : (s : S) (h : H) (r room : List ℕ) → L .view h ≡ carrying s [] → refusalOr31 L h ≡ 0 → Complete r r → length room ≡ 8
       → feeds L h r room
-      ≡ record { number = 0; consumed = length r; written = 8; held = L .keep (carrying (L .device .run s r .dev) []); answers = L .device .run s r .answer }
+      ≡ record { number = 0; consumed = length r; written = 8; held = L .keep (carrying (L .device .run s r .state) []); answers = L .device .run s r .answer }
   one-record s h r room v e c l =
       let a = D .run s r .answer in
-      let p = carrying (D .run s r .dev) [] in
+      let p = carrying (D .run s r .state) [] in
       let f : feedOpen D (carrying s []) 8 r ≡ later (length r) a (stopped 0 p) =
-      feed-complete D s r r 8 c (omega arith) ∙ ap (later (length r) a) (nothing-left (D .run s r .dev) (8 - 8) (drop (length r) r) (drop-length r)) in
+      feed-complete D s r r 8 c (omega arith) ∙ ap (later (length r) a) (nothing-left (D .run s r .state) (8 - 8) (drop (length r) r) (drop-length r)) in
       let n : length (a ++ []) ≡ 8 = ap length (append-nil a) ∙ D .eight s r in
       let m : length r + 0 ≡ length r = omega arith in
       let d : drop (length (a ++ [])) room ≡ [] = ap (λ (k : ℕ). drop k room) (n ∙ sym l) ∙ drop-length room in
@@ -59,13 +59,13 @@ module _ {S H : Type 0} (L : Lent S H) where
   -- a call with c carried is the record that c begins, and then a call on the rest with nothing carried
   pub rejoin : (s : S) (c input room r : List ℕ) (h h₂ : H) → L .view h ≡ carrying s c → refusalOr31 L h ≡ 0 → begun c ≡ true
       → Complete (c ++ input) r → 8 ≤ length room
-      → L .view h₂ ≡ carrying (L .device .run s r .dev) [] → refusalOr31 L h₂ ≡ 0
+      → L .view h₂ ≡ carrying (L .device .run s r .state) [] → refusalOr31 L h₂ ≡ 0
       → (x : Left H) → x ≡ feeds L h₂ (drop (length r) (c ++ input)) (drop 8 room)
       → record { number = x .number; consumed = length r + x .consumed - length c; written = 8 + x .written; held = x .held; answers = L .device .run s r .answer ++ x .answers }
       ≡ feeds L h input room
   rejoin s c input room r h h₂ v e b k j v₂ e₂ x q =
       let a = D .run s r .answer in
-      let p = carrying (D .run s r .dev) [] in
+      let p = carrying (D .run s r .state) [] in
       let f = feedOpen D p (length room - 8) (drop (length r) (c ++ input)) in
       let call = feedOpen D (carrying s c) (length room) input in
       let t : later (length c) [] call ≡ later (length r) a f =

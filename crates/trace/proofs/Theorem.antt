@@ -67,7 +67,7 @@ module _ {S H : Type 0} (L : Lent S H) (h₀ : H) (Good : S → Type 0) (K : Kee
 
   -- ---- one call on accepted memory
   record Step (h : H) (c : Call) (x : Left H) : Type 0 where
-    same : plain D (L .view h .dev) (L .view h .carried ++ take (x .consumed) (c .input)) ≡ left-as D (L .view (x .held)) (take (x .written) (x .answers))
+    same : plain D (L .view h .state) (L .view h .carried ++ take (x .consumed) (c .input)) ≡ left-as D (L .view (x .held)) (take (x .written) (x .answers))
     scans : outcomeIn x ≡ outcome (L .view h .carried) (L .view h .broken) (c .input) (length (c .answers))
     breaks : L .view (x .held) .broken ≡ (L .view h .broken || eqb (x .number) 31)
     untouched : drop (x .written) (x .answers) ≡ drop (x .written) (c .answers)
@@ -122,7 +122,7 @@ module _ {S H : Type 0} (L : Lent S H) (h₀ : H) (Good : S → Type 0) (K : Kee
   -- ---- a list of calls on the lent memory h, where the plain bench, started in s, stands after the bytes `done` as h does
   record Since (s : S) (done : List ℕ) (h : H) (cs : List Call) (z : Came H) : Type 0 where
     answers : plain D s (done ++ z .bytes) .answers ≡ plain D s done .answers ++ z .answers
-    device : L .view (z .held) .dev ≡ plain D s (done ++ z .bytes) .dev
+    device : L .view (z .held) .state ≡ plain D s (done ++ z .bytes) .state
     carried : L .view (z .held) .carried ≡ plain D s (done ++ z .bytes) .carried
     broken : L .view (z .held) .broken ≡ (L .view h .broken || gave 31 (z .outcomes))
     outcomes : z .outcomes ≡ expectedFrom D 0 s (L .view h .broken) done cs
@@ -132,7 +132,7 @@ module _ {S H : Type 0} (L : Lent S H) (h₀ : H) (Good : S → Type 0) (K : Kee
     stays : h ≡ L .keep (L .view h) → z .held ≡ L .keep (L .view (z .held))
     fresh : L .view h .broken ≡ false → 0 < length cs → z .held ≡ L .keep (L .view (z .held))
 
-  since : (s : S) (done : List ℕ) (h : H) (cs : List Call) → L .view h .dev ≡ plain D s done .dev → L .view h .carried ≡ plain D s done .carried
+  since : (s : S) (done : List ℕ) (h : H) (cs : List Call) → L .view h .state ≡ plain D s done .state → L .view h .carried ≡ plain D s done .carried
       → Valid h → BytesIn cs → Since s done h cs (calls L h cs)
   unfolding calls expectedFrom outcomeOf
   since s done h [] d e v i =
@@ -153,9 +153,9 @@ module _ {S H : Type 0} (L : Lent S H) (h₀ : H) (Good : S → Type 0) (K : Kee
       let x = feeds L h (c .input) (c .answers) in
       let o = step h c v (i .0) in
       let taken = take (x .consumed) (c .input) in
-      let b : plain D s (done ++ taken) ≡ record { dev = L .view (x .held) .dev; carried = L .view (x .held) .carried; answers = plain D s done .answers ++ take (x .written) (x .answers) } =
+      let b : plain D s (done ++ taken) ≡ record { state = L .view (x .held) .state; carried = L .view (x .held) .carried; answers = plain D s done .answers ++ take (x .written) (x .answers) } =
       plain-append D s done taken ∙ rw (← d, ← e, o .same) in
-      let r = since s (done ++ taken) (x .held) cs (sym (ap (λ (y : Benched S). y .dev) b)) (sym (ap (λ (y : Benched S). y .carried) b)) (o .valid) (i .1) in
+      let r = since s (done ++ taken) (x .held) cs (sym (ap (λ (y : Benched S). y .state) b)) (sym (ap (λ (y : Benched S). y .carried) b)) (o .valid) (i .1) in
       let z = calls L (x .held) cs in
       let a = append-assoc done taken (z .bytes) in
       record {
@@ -187,7 +187,7 @@ module _ {S H : Type 0} (L : Lent S H) (h₀ : H) (Good : S → Type 0) (K : Kee
         outcomes = outcomes (refusal L h₀) refl;
         untouched = untouched (refusal L h₀) refl;
         slices = slices (refusal L h₀) refl;
-        numbers = λ e n j k. rw (from e .outcomes) (expected-numbers D (L .view h₀ .dev) (L .view h₀ .broken) (L .view h₀ .carried) cs n j k);
+        numbers = λ e n j k. rw (from e .outcomes) (expected-numbers D (L .view h₀ .state) (L .view h₀ .broken) (L .view h₀ .carried) cs n j k);
         sound = λ e. from e .valid .accepted;
         refused = λ n e. all-refused L n h₀ cs (refusal-set-up L h₀ n e);
         unsound = λ e f. all-refused L 4 h₀ cs (refusal-unsound L h₀ e f);
@@ -196,19 +196,19 @@ module _ {S H : Type 0} (L : Lent S H) (h₀ : H) (Good : S → Type 0) (K : Kee
       z : Came H
       z = calls L h₀ cs
 
-      start : refusal L h₀ ≡ 0 → plain D (L .view h₀ .dev) (L .view h₀ .carried) ≡ record { dev = L .view h₀ .dev; carried = L .view h₀ .carried; answers = [] }
-      start e = plain-partial D (L .view h₀ .dev) (L .view h₀ .carried) (begun-partial (L .view h₀ .carried) (K .carries e))
+      start : refusal L h₀ ≡ 0 → plain D (L .view h₀ .state) (L .view h₀ .carried) ≡ record { state = L .view h₀ .state; carried = L .view h₀ .carried; answers = [] }
+      start e = plain-partial D (L .view h₀ .state) (L .view h₀ .carried) (begun-partial (L .view h₀ .carried) (K .carries e))
 
-      from : refusal L h₀ ≡ 0 → Since (L .view h₀ .dev) (L .view h₀ .carried) h₀ cs z
+      from : refusal L h₀ ≡ 0 → Since (L .view h₀ .state) (L .view h₀ .carried) h₀ cs z
       from e =
-          since (L .view h₀ .dev) (L .view h₀ .carried) h₀ cs (sym (ap (λ (y : Benched S). y .dev) (start e))) (sym (ap (λ (y : Benched S). y .carried) (start e))) (valid-start e bytes) inputs
+          since (L .view h₀ .state) (L .view h₀ .carried) h₀ cs (sym (ap (λ (y : Benched S). y .state) (start e))) (sym (ap (λ (y : Benched S). y .carried) (start e))) (valid-start e bytes) inputs
 
       after : refusal L h₀ ≡ 0 → L .view (z .held) ≡ benchAfter L h₀ z
-      after e = let r = from e in λ k. record { dev = r .device k; carried = r .carried k; broken = r .broken k }
+      after e = let r = from e in λ k. record { state = r .device k; carried = r .carried k; broken = r .broken k }
 
       outcomes : (n : ℕ) → refusal L h₀ ≡ n → z .outcomes ≡ expected D n (L .view h₀) cs
       outcomes zero e = from e .outcomes
-      outcomes (suc n) e = rw (all-refused L n h₀ cs e) (refused-outcomes L D n (L .view h₀ .dev) (L .view h₀ .broken) (L .view h₀ .carried) cs)
+      outcomes (suc n) e = rw (all-refused L n h₀ cs e) (refused-outcomes L D n (L .view h₀ .state) (L .view h₀ .broken) (L .view h₀ .carried) cs)
 
       untouched : (n : ℕ) → refusal L h₀ ≡ n → beyond (z .outcomes) (z .slices) ≡ beyond (z .outcomes) (slicesOf cs)
       untouched zero e = from e .untouched
@@ -219,5 +219,5 @@ module _ {S H : Type 0} (L : Lent S H) (h₀ : H) (Good : S → Type 0) (K : Kee
       slices (suc n) e = rw (all-refused L n h₀ cs e) (sym (placed-none (suc n) cs))
 
   -- and the state stays good
-  pub stays-good : (cs : List Call) → refusal L h₀ ≡ 0 → Bytes (L .view h₀ .carried) → BytesIn cs → Good (L .view (calls L h₀ cs .held) .dev)
+  pub stays-good : (cs : List Call) → refusal L h₀ ≡ 0 → Bytes (L .view h₀ .carried) → BytesIn cs → Good (L .view (calls L h₀ cs .held) .state)
   stays-good cs e b i = last-valid h₀ cs (valid-start e b) i .kept .good

@@ -10,7 +10,7 @@ use Rattle.trace.specs.Format.{if_then_else_, body, whole}
 -- ---- The device
 -- what one record does: the device after it, and its answer's bytes
 pub record Ran (S : Type 0) : Type 0 where
-  pub dev : S
+  pub state : S
   pub answer : List ℕ
 
 -- S is the device's state. `run s r` runs the record with the bytes r, its kind first; every answer has 8 bytes
@@ -20,7 +20,7 @@ pub record Device (S : Type 0) : Type 0 where
 
 -- the state of a bench: its device's, the bytes carried, and whether the trace is broken
 pub record Bench (S : Type 0) : Type 0 where
-  pub dev : S
+  pub state : S
   pub carried : List ℕ
   pub broken : Bool
 
@@ -51,22 +51,22 @@ cut bs = cutIn (length bs) bs
 -- ---- The plain bench
 -- what it comes to: the device after the trace, the bytes carried, and all answers, joined
 pub record Benched (S : Type 0) : Type 0 where
-  pub dev : S
+  pub state : S
   pub carried : List ℕ
   pub answers : List ℕ
 
 module _ {S : Type 0} (D : Device S) where
   -- records run one after the other, their answers joined
   unfoldable pub runs : S → List (List ℕ) → Ran S
-  runs s [] = record { dev = s; answer = [] }
+  runs s [] = record { state = s; answer = [] }
   runs s (r ∷ rs) =
       let x = D .run s r in
-      let y = runs (x .dev) rs in
-      record { dev = y .dev; answer = x .answer ++ y .answer }
+      let y = runs (x .state) rs in
+      record { state = y .state; answer = x .answer ++ y .answer }
 
   -- THE PLAIN BENCH, started in s, on the trace bs
   unfoldable pub plain : S → List ℕ → Benched S
   plain s bs =
       let c = cut bs in
       let x = runs s (c .wholes) in
-      record { dev = x .dev; carried = c .left; answers = x .answer }
+      record { state = x .state; carried = c .left; answers = x .answer }

@@ -89,4 +89,4 @@ module _ {S : Type 0} (D : Device S) where
       o ∷ expectedFrom refusal s (broken || eqb (o .number) 31) (done ++ take (o .consumed) (c .input)) cs
 
   abbrev pub expected : (refusal : ℕ) → Bench S → List Call → List Outcome
-  expected refusal p cs = expectedFrom refusal (p .dev) (p .broken) (p .carried) cs
+  expected refusal p cs = expectedFrom refusal (p .state) (p .broken) (p .carried) cs

@@ -11,28 +11,28 @@ use Rattle.trace.specs.Calls.{Call, Came, slicesOf, gave, beyond, placed
 
 -- a whole record, of bytes, keeps the state good, for any notion of good
 abbrev pub RunKeeps : {S : Type 0} → Device S → (S → Type 0) → Type 0
-RunKeeps {S} D Good = (s : S) (r : List ℕ) → next r ≡ complete r → Bytes r → Good s → Good (D .run s r .dev)
+RunKeeps {S} D Good = (s : S) (r : List ℕ) → next r ≡ complete r → Bytes r → Good s → Good (D .run s r .state)
 
 module _ {S H : Type 0} (L : Lent S H) where
   -- What the device and the lent memory must fulfil where the calls start on h
   pub record Keeps (h : H) (Good : S → Type 0) : Type 0 where
     -- what is not refused starts in a good state, and carries at most the start of one record
-    pub good : refusal L h ≡ 0 → Good (L .view h .dev)
+    pub good : refusal L h ≡ 0 → Good (L .view h .state)
     pub carries : refusal L h ≡ 0 → begun (L .view h .carried) ≡ true
     -- each record keeps the state good
     pub run : RunKeeps (L .device) Good
     -- a bench in a good state is kept as it is, and is not refused
-    pub kept : (p : Bench S) → Good (p .dev) → begun (p .carried) ≡ true → L .view (L .keep p) ≡ p
-    pub accepted : (p : Bench S) → Good (p .dev) → begun (p .carried) ≡ true → refusal L (L .keep p) ≡ 0
+    pub kept : (p : Bench S) → Good (p .state) → begun (p .carried) ≡ true → L .view (L .keep p) ≡ p
+    pub accepted : (p : Bench S) → Good (p .state) → begun (p .carried) ≡ true → refusal L (L .keep p) ≡ 0
 
   -- the plain bench on what was carried and all the bytes that calls consumed
   abbrev pub plainOn : H → Came H → Benched S
-  plainOn h z = plain (L .device) (L .view h .dev) (L .view h .carried ++ z .bytes)
+  plainOn h z = plain (L .device) (L .view h .state) (L .view h .carried ++ z .bytes)
 
   -- its state, broken from the first call on that gave 31
   abbrev pub benchAfter : H → Came H → Bench S
   benchAfter h z =
-      record { dev = plainOn h z .dev; carried = plainOn h z .carried; broken = L .view h .broken || gave 31 (z .outcomes) }
+      record { state = plainOn h z .state; carried = plainOn h z .carried; broken = L .view h .broken || gave 31 (z .outcomes) }
 
   -- THE CLAIM, of the calls cs on the lent memory h, where z is what they come to
   pub record Claim (h : H) (cs : List Call) (z : Came H) : Type 0 where
@@ -66,7 +66,7 @@ module _ {S H : Type 0} (L : Lent S H) where
 
   -- (a) and (b) from there: the plain bench is fed the calls' consumed bytes, joined, and nothing else
   pub record FromFresh (h : H) (z : Came H) : Type 0 where
-    pub answers : z .answers ≡ plain (L .device) (L .view h .dev) (z .bytes) .answers
-    pub device : L .view (z .held) .dev ≡ plain (L .device) (L .view h .dev) (z .bytes) .dev
-    pub carried : L .view (z .held) .carried ≡ plain (L .device) (L .view h .dev) (z .bytes) .carried
+    pub answers : z .answers ≡ plain (L .device) (L .view h .state) (z .bytes) .answers
+    pub device : L .view (z .held) .state ≡ plain (L .device) (L .view h .state) (z .bytes) .state
+    pub carried : L .view (z .held) .carried ≡ plain (L .device) (L .view h .state) (z .bytes) .carried
     pub broken : L .view (z .held) .broken ≡ gave 31 (z .outcomes)

@@ -39,20 +39,20 @@ module _ {S : Type 0} where
 
   -- a record has run: nothing is carried
   abbrev pub ranWith : Ran S → Step S
-  ranWith x = took (record { dev = x .dev; carried = []; broken = false }) (x .answer)
+  ranWith x = took (record { state = x .state; carried = []; broken = false }) (x .answer)
 
 module _ {S : Type 0} (D : Device S) where
   -- a byte that doesn't end its record is carried, and does nothing else
   abbrev pub carriesOn : Bench S → ℕ → Step S
-  carriesOn p b = took (record { dev = p .dev; carried = p .carried ++ b ∷ []; broken = false }) []
+  carriesOn p b = took (record { state = p .state; carried = p .carried ++ b ∷ []; broken = false }) []
 
   -- a record's last byte runs it; with fewer than 8 answer bytes left it gives 30 and isn't consumed
   abbrev pub endsRecord : Bench S → ℕ → ℕ → Step S
-  endsRecord p room b = if ltb room 8 then stop 30 p else ranWith (D .run (p .dev) (p .carried ++ b ∷ []))
+  endsRecord p room b = if ltb room 8 then stop 30 p else ranWith (D .run (p .state) (p .carried ++ b ∷ []))
 
   -- an unknown kind gives 31, whatever the room is, and isn't consumed; the trace stays broken
   abbrev pub breaks : Bench S → Step S
-  breaks p = stop 31 (record { dev = p .dev; carried = p .carried; broken = true })
+  breaks p = stop 31 (record { state = p .state; carried = p .carried; broken = true })
 
   -- THE BYTE b, with `room` answer bytes left
   unfoldable pub byte : Bench S → ℕ → ℕ → Step S

@@ -82,11 +82,11 @@ use Rattle.bench.proofs.number_made.Symbol.{name as #bench·number-made
 use Rattle.bench.proofs.number_made.Met as number-of-thm
 use Rattle.lent_statuses.proofs.load as load
 use Rattle.lent_statuses.proofs.load.Symbol as load-def
-use Rattle.lent_statuses.proofs.load.Symbol.{name as #statuses·load}
+use Rattle.lent_statuses.proofs.load.Symbol.{name as #lent-statuses·load}
 use Rattle.lent_statuses.proofs.load.Met as load-thm
 use Rattle.lent_statuses.proofs.store as store′
 use Rattle.lent_statuses.proofs.store.Symbol as store-def
-use Rattle.lent_statuses.proofs.store.Symbol.{name as #statuses·store}
+use Rattle.lent_statuses.proofs.store.Symbol.{name as #lent-statuses·store}
 use Rattle.lent_statuses.proofs.store.Met as store-thm
 use Rattle.bench.proofs.set_up.Key.{name as #bench·set-up}
 use Rattle.bench.proofs.set_up as f
@@ -132,9 +132,9 @@ module _ {M : Type 1} (𝓤 : URA M) (H : Heap 𝓤) (A : Atoms 𝓤) (at-mem : 
   NumberC = tripleOf 𝓤 H A number-of.signature (number-of.spec 𝓤 H A at-mem run)
 
   record Known (C : Calls 𝓤 H) : Type 1 where
-    load : Triple 𝓤 (C #statuses·load) Load
+    load : Triple 𝓤 (C #lent-statuses·load) Load
     core : Triple 𝓤 (C #set-up·set-up) Core
-    store : Triple 𝓤 (C #statuses·store) Store
+    store : Triple 𝓤 (C #lent-statuses·store) Store
     port : Triple 𝓤 (C #bench·port-made) PortC
     statuses : Triple 𝓤 (C #bench·statuses-made) StatusesC
     number : Triple 𝓤 (C #bench·number-made) NumberC
@@ -450,9 +450,9 @@ set-up-spec 𝓤 H 𝓜 𝓖 𝓡 =
     entered 𝓤 H (tripleOf 𝓤 H (𝓖 .A) f.signature (f.spec 𝓤 H (𝓖 .A) (𝓜 .mem) (𝓡 .run)))
     (tables 𝓤 H 𝓜 𝓡 code.env .C) (tables 𝓤 H 𝓜 𝓡 code.env .Λ) #bench·set-up code.function (code.unfolded 𝓤 H 𝓜 𝓡)
     (set-up-meets 𝓤 H (𝓖 .A) (givenOf 𝓤 H 𝓜 𝓖) (𝓜 .mem) (𝓡 .run) (tablesOf 𝓤 H 𝓜 (tables 𝓤 H 𝓜 𝓡 code.env)) (record {
-      load = cited 𝓤 H (Load 𝓤 H (𝓖 .A) (𝓜 .mem) (𝓡 .run)) 𝓜 𝓡 code.env #statuses·load load-def.routine code.calls-statuses·load (load-thm.met 𝓤 H 𝓜 𝓖 𝓡);
+      load = cited 𝓤 H (Load 𝓤 H (𝓖 .A) (𝓜 .mem) (𝓡 .run)) 𝓜 𝓡 code.env #lent-statuses·load load-def.routine code.calls-lent-statuses·load (load-thm.met 𝓤 H 𝓜 𝓖 𝓡);
       core = cited 𝓤 H (Core 𝓤 H (𝓖 .A) (𝓜 .mem) (𝓡 .run)) 𝓜 𝓡 code.env #set-up·set-up core-def.routine code.calls-set-up·set-up (core-thm.met 𝓤 H 𝓜 𝓖 𝓡);
-      store = cited 𝓤 H (Store 𝓤 H (𝓖 .A) (𝓜 .mem) (𝓡 .run)) 𝓜 𝓡 code.env #statuses·store store-def.routine code.calls-statuses·store (store-thm.met 𝓤 H 𝓜 𝓖 𝓡);
+      store = cited 𝓤 H (Store 𝓤 H (𝓖 .A) (𝓜 .mem) (𝓡 .run)) 𝓜 𝓡 code.env #lent-statuses·store store-def.routine code.calls-lent-statuses·store (store-thm.met 𝓤 H 𝓜 𝓖 𝓡);
       port = cited 𝓤 H (PortC 𝓤 H (𝓖 .A) (𝓜 .mem) (𝓡 .run)) 𝓜 𝓡 code.env #bench·port-made port-of-def.routine code.calls-bench·port-made (port-of-thm.met 𝓤 H 𝓜 𝓖 𝓡);
       statuses = cited 𝓤 H (StatusesC 𝓤 H (𝓖 .A) (𝓜 .mem) (𝓡 .run)) 𝓜 𝓡 code.env #bench·statuses-made statuses-of-def.routine code.calls-bench·statuses-made (statuses-of-thm.met 𝓤 H 𝓜 𝓖 𝓡);
       number = cited 𝓤 H (NumberC 𝓤 H (𝓖 .A) (𝓜 .mem) (𝓡 .run)) 𝓜 𝓡 code.env #bench·number-made number-of-def.routine code.calls-bench·number-made (number-of-thm.met 𝓤 H 𝓜 𝓖 𝓡);

@@ -75,9 +75,9 @@ use Rattle.bench.proofs.feed.Symbol.{name as #bench·feed}
 use Rattle.bench.proofs.feed.Met as entry-thm
 use Rattle.bench_by_value.proofs.fed_with as made
 use Rattle.bench_by_value.proofs.fed_with.Symbol as made-def
-use Rattle.bench_by_value.proofs.fed_with.Symbol.{name as #by-value·fed-with}
+use Rattle.bench_by_value.proofs.fed_with.Symbol.{name as #bench-by-value·fed-with}
 use Rattle.bench_by_value.proofs.fed_with.Met as made-thm
-use Rattle.bench_by_value.proofs.feed_first.Key.{name as #by-value·feed-first}
+use Rattle.bench_by_value.proofs.feed_first.Key.{name as #bench-by-value·feed-first}
 use Rattle.bench_by_value.proofs.feed_first as f
 use Rattle.bench_by_value.proofs.feed_first.Statement as stated
 use Rattle.bench_by_value.proofs.feed_first.Code as code
@@ -135,7 +135,7 @@ module _ {M : Type 1} (𝓤 : URA M) (H : Heap 𝓤) (A : Atoms 𝓤) (at-mem : 
   record Known (C : Calls 𝓤 H) : Type 1 where
     at-most : Triple 𝓤 (C #bits·at-most) AtMost
     entry : Triple 𝓤 (C #bench·feed) Entry
-    made : Triple 𝓤 (C #by-value·fed-with) Made
+    made : Triple 𝓤 (C #bench-by-value·fed-with) Made
 
 module _ {M : Type 1} (𝓤 : URA M) (H : Heap 𝓤) (A : Atoms 𝓤) (W : Given 𝓤 H A) (at-mem : Memory → SProp 𝓤) (run : Routine → Fun 𝓤)
     (κ₀ κ₁ κ₂ κ₃ κ₄ : Lft) (q₀ q₁ q₂ q₃ q₄ : Share) (bounds : AllOutlive 5 (f.signature .outlives) (κ₀, (κ₁, (κ₂, (κ₃, (κ₄, tt)))))) (st : Setup) (h : Port) (xs : List Status) (n : ℕ) (y : RefT (List ℕ)) (x : RefT (List ℕ)) (z : RefT (List ℕ)) (i : RefT (List ℕ)) (o′ : RefT (List ℕ)) where
@@ -448,9 +448,9 @@ pub feed-first-spec : {M : Type 1} → stated.statement M
 unfolding code.routine tablesOf
 feed-first-spec 𝓤 H 𝓜 𝓖 𝓡 =
     entered 𝓤 H (tripleOf 𝓤 H (𝓖 .A) f.signature (f.spec 𝓤 H (𝓖 .A) (𝓜 .mem) (𝓡 .run)))
-    (tables 𝓤 H 𝓜 𝓡 code.env .C) (tables 𝓤 H 𝓜 𝓡 code.env .Λ) #by-value·feed-first code.function (code.unfolded 𝓤 H 𝓜 𝓡)
+    (tables 𝓤 H 𝓜 𝓡 code.env .C) (tables 𝓤 H 𝓜 𝓡 code.env .Λ) #bench-by-value·feed-first code.function (code.unfolded 𝓤 H 𝓜 𝓡)
     (feed-first-meets 𝓤 H (𝓖 .A) (givenOf 𝓤 H 𝓜 𝓖) (𝓜 .mem) (𝓡 .run) (tablesOf 𝓤 H 𝓜 (tables 𝓤 H 𝓜 𝓡 code.env)) (record {
       at-most = cited 𝓤 H (AtMost 𝓤 H (𝓖 .A) (𝓜 .mem) (𝓡 .run)) 𝓜 𝓡 code.env #bits·at-most at-most-def.routine code.calls-bits·at-most (at-most-thm.met 𝓤 H 𝓜 𝓖 𝓡);
       entry = cited 𝓤 H (Entry 𝓤 H (𝓖 .A) (𝓜 .mem) (𝓡 .run)) 𝓜 𝓡 code.env #bench·feed entry-def.routine code.calls-bench·feed (entry-thm.met 𝓤 H 𝓜 𝓖 𝓡);
-      made = cited 𝓤 H (Made 𝓤 H (𝓖 .A) (𝓜 .mem) (𝓡 .run)) 𝓜 𝓡 code.env #by-value·fed-with made-def.routine code.calls-by-value·fed-with (made-thm.met 𝓤 H 𝓜 𝓖 𝓡);
+      made = cited 𝓤 H (Made 𝓤 H (𝓖 .A) (𝓜 .mem) (𝓡 .run)) 𝓜 𝓡 code.env #bench-by-value·fed-with made-def.routine code.calls-bench-by-value·fed-with (made-thm.met 𝓤 H 𝓜 𝓖 𝓡);
     }))

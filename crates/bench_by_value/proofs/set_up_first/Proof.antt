@@ -72,9 +72,9 @@ use Rattle.bench.proofs.set_up.Symbol.{name as #bench·set-up}
 use Rattle.bench.proofs.set_up.Met as entry-thm
 use Rattle.bench_by_value.proofs.set_up_with as made
 use Rattle.bench_by_value.proofs.set_up_with.Symbol as made-def
-use Rattle.bench_by_value.proofs.set_up_with.Symbol.{name as #by-value·set-up-with}
+use Rattle.bench_by_value.proofs.set_up_with.Symbol.{name as #bench-by-value·set-up-with}
 use Rattle.bench_by_value.proofs.set_up_with.Met as made-thm
-use Rattle.bench_by_value.proofs.set_up_first.Key.{name as #by-value·set-up-first}
+use Rattle.bench_by_value.proofs.set_up_first.Key.{name as #bench-by-value·set-up-first}
 use Rattle.bench_by_value.proofs.set_up_first as f
 use Rattle.bench_by_value.proofs.set_up_first.Statement as stated
 use Rattle.bench_by_value.proofs.set_up_first.Code as code
@@ -126,7 +126,7 @@ module _ {M : Type 1} (𝓤 : URA M) (H : Heap 𝓤) (A : Atoms 𝓤) (at-mem : 
   record Known (C : Calls 𝓤 H) : Type 1 where
     at-most : Triple 𝓤 (C #bits·at-most) AtMost
     entry : Triple 𝓤 (C #bench·set-up) Entry
-    made : Triple 𝓤 (C #by-value·set-up-with) Made
+    made : Triple 𝓤 (C #bench-by-value·set-up-with) Made
 
 module _ {M : Type 1} (𝓤 : URA M) (H : Heap 𝓤) (A : Atoms 𝓤) (W : Given 𝓤 H A) (at-mem : Memory → SProp 𝓤) (run : Routine → Fun 𝓤)
     (κ₀ κ₁ κ₂ : Lft) (q₀ q₁ q₂ : Share) (bounds : AllOutlive 3 (f.signature .outlives) (κ₀, (κ₁, (κ₂, tt)))) (st : Setup) (h : Port) (xs : List Status) (n : ℕ) (y : RefT (List ℕ)) (x : RefT (List ℕ)) (z : RefT (List ℕ)) where
@@ -406,9 +406,9 @@ pub set-up-first-spec : {M : Type 1} → stated.statement M
 unfolding code.routine tablesOf
 set-up-first-spec 𝓤 H 𝓜 𝓖 𝓡 =
     entered 𝓤 H (tripleOf 𝓤 H (𝓖 .A) f.signature (f.spec 𝓤 H (𝓖 .A) (𝓜 .mem) (𝓡 .run)))
-    (tables 𝓤 H 𝓜 𝓡 code.env .C) (tables 𝓤 H 𝓜 𝓡 code.env .Λ) #by-value·set-up-first code.function (code.unfolded 𝓤 H 𝓜 𝓡)
+    (tables 𝓤 H 𝓜 𝓡 code.env .C) (tables 𝓤 H 𝓜 𝓡 code.env .Λ) #bench-by-value·set-up-first code.function (code.unfolded 𝓤 H 𝓜 𝓡)
     (set-up-first-meets 𝓤 H (𝓖 .A) (givenOf 𝓤 H 𝓜 𝓖) (𝓜 .mem) (𝓡 .run) (tablesOf 𝓤 H 𝓜 (tables 𝓤 H 𝓜 𝓡 code.env)) (record {
       at-most = cited 𝓤 H (AtMost 𝓤 H (𝓖 .A) (𝓜 .mem) (𝓡 .run)) 𝓜 𝓡 code.env #bits·at-most at-most-def.routine code.calls-bits·at-most (at-most-thm.met 𝓤 H 𝓜 𝓖 𝓡);
       entry = cited 𝓤 H (Entry 𝓤 H (𝓖 .A) (𝓜 .mem) (𝓡 .run)) 𝓜 𝓡 code.env #bench·set-up entry-def.routine code.calls-bench·set-up (entry-thm.met 𝓤 H 𝓜 𝓖 𝓡);
-      made = cited 𝓤 H (Made 𝓤 H (𝓖 .A) (𝓜 .mem) (𝓡 .run)) 𝓜 𝓡 code.env #by-value·set-up-with made-def.routine code.calls-by-value·set-up-with (made-thm.met 𝓤 H 𝓜 𝓖 𝓡);
+      made = cited 𝓤 H (Made 𝓤 H (𝓖 .A) (𝓜 .mem) (𝓡 .run)) 𝓜 𝓡 code.env #bench-by-value·set-up-with made-def.routine code.calls-bench-by-value·set-up-with (made-thm.met 𝓤 H 𝓜 𝓖 𝓡);
     }))

@@ -59,21 +59,21 @@ use Rattle.bits.proofs.at_most.Symbol.{name as #bits·at-most}
 use Rattle.bits.proofs.at_most.Met as at-most-thm
 use Rattle.lent_statuses.proofs.all_ready as all-ready
 use Rattle.lent_statuses.proofs.all_ready.Symbol as all-ready-def
-use Rattle.lent_statuses.proofs.all_ready.Symbol.{name as #statuses·all-ready}
+use Rattle.lent_statuses.proofs.all_ready.Symbol.{name as #lent-statuses·all-ready}
 use Rattle.lent_statuses.proofs.all_ready.Met as all-ready-thm
 use Rattle.lent_statuses.proofs.ready_status as ready-status
 use Rattle.lent_statuses.proofs.ready_status.Symbol as ready-status-def
-use Rattle.lent_statuses.proofs.ready_status.Symbol.{name as #statuses·ready-status}
+use Rattle.lent_statuses.proofs.ready_status.Symbol.{name as #lent-statuses·ready-status}
 use Rattle.lent_statuses.proofs.ready_status.Met as ready-status-thm
 use Rattle.lent_statuses.proofs.status_at as status-at
 use Rattle.lent_statuses.proofs.status_at.Symbol as status-at-def
-use Rattle.lent_statuses.proofs.status_at.Symbol.{name as #statuses·status-at}
+use Rattle.lent_statuses.proofs.status_at.Symbol.{name as #lent-statuses·status-at}
 use Rattle.lent_statuses.proofs.status_at.Met as status-at-thm
 use Rattle.lent_statuses.proofs.put as put
 use Rattle.lent_statuses.proofs.put.Symbol as put-def
-use Rattle.lent_statuses.proofs.put.Symbol.{name as #statuses·put}
+use Rattle.lent_statuses.proofs.put.Symbol.{name as #lent-statuses·put}
 use Rattle.lent_statuses.proofs.put.Met as put-thm
-use Rattle.lent_statuses.proofs.load.Key.{name as #statuses·load}
+use Rattle.lent_statuses.proofs.load.Key.{name as #lent-statuses·load}
 use Rattle.lent_statuses.proofs.load as f
 use Rattle.lent_statuses.proofs.load.Statement as stated
 use Rattle.lent_statuses.proofs.load.Code as code
@@ -126,10 +126,10 @@ module _ {M : Type 1} (𝓤 : URA M) (H : Heap 𝓤) (A : Atoms 𝓤) (mem : Mem
 
   record Known (C : Calls 𝓤 H) : Type 1 where
     at-most : Triple 𝓤 (C #bits·at-most) AtMost
-    all-ready : Triple 𝓤 (C #statuses·all-ready) AllReady
-    ready-status : Triple 𝓤 (C #statuses·ready-status) ReadyStatus
-    status-at : Triple 𝓤 (C #statuses·status-at) StatusAt
-    put : Triple 𝓤 (C #statuses·put) Put
+    all-ready : Triple 𝓤 (C #lent-statuses·all-ready) AllReady
+    ready-status : Triple 𝓤 (C #lent-statuses·ready-status) ReadyStatus
+    status-at : Triple 𝓤 (C #lent-statuses·status-at) StatusAt
+    put : Triple 𝓤 (C #lent-statuses·put) Put
 
 module _ {M : Type 1} (𝓤 : URA M) (H : Heap 𝓤) (A : Atoms 𝓤) (W : Given 𝓤 H A) (mem : Memory → SProp 𝓤) (run : Routine → Fun 𝓤) (κ : Lft) (q : Share) (b o : ℕ) (γ : GName) (ys : List Status) where
   abbrev x : RefT (List Status)
@@ -291,11 +291,11 @@ pub load-spec : {M : Type 1} → stated.statement M
 unfolding code.routine tablesOf
 load-spec 𝓤 H 𝓜 𝓖 𝓡 =
     entered 𝓤 H (tripleOf 𝓤 H (𝓖 .A) f.signature (f.spec 𝓤 H (𝓖 .A) (𝓜 .mem) (𝓡 .run)))
-    (tables 𝓤 H 𝓜 𝓡 code.env .C) (tables 𝓤 H 𝓜 𝓡 code.env .Λ) #statuses·load code.function (code.unfolded 𝓤 H 𝓜 𝓡)
+    (tables 𝓤 H 𝓜 𝓡 code.env .C) (tables 𝓤 H 𝓜 𝓡 code.env .Λ) #lent-statuses·load code.function (code.unfolded 𝓤 H 𝓜 𝓡)
     (load-meets 𝓤 H (𝓖 .A) (givenOf 𝓤 H 𝓜 𝓖) (𝓜 .mem) (𝓡 .run) (tablesOf 𝓤 H 𝓜 (tables 𝓤 H 𝓜 𝓡 code.env)) (record {
       at-most = cited 𝓤 H (AtMost 𝓤 H (𝓖 .A) (𝓜 .mem) (𝓡 .run)) 𝓜 𝓡 code.env #bits·at-most at-most-def.routine code.calls-bits·at-most (at-most-thm.met 𝓤 H 𝓜 𝓖 𝓡);
-      all-ready = cited 𝓤 H (AllReady 𝓤 H (𝓖 .A) (𝓜 .mem) (𝓡 .run)) 𝓜 𝓡 code.env #statuses·all-ready all-ready-def.routine code.calls-statuses·all-ready (all-ready-thm.met 𝓤 H 𝓜 𝓖 𝓡);
-      ready-status = cited 𝓤 H (ReadyStatus 𝓤 H (𝓖 .A) (𝓜 .mem) (𝓡 .run)) 𝓜 𝓡 code.env #statuses·ready-status ready-status-def.routine code.calls-statuses·ready-status (ready-status-thm.met 𝓤 H 𝓜 𝓖 𝓡);
-      status-at = cited 𝓤 H (StatusAt 𝓤 H (𝓖 .A) (𝓜 .mem) (𝓡 .run)) 𝓜 𝓡 code.env #statuses·status-at status-at-def.routine code.calls-statuses·status-at (status-at-thm.met 𝓤 H 𝓜 𝓖 𝓡);
-      put = cited 𝓤 H (Put 𝓤 H (𝓖 .A) (𝓜 .mem) (𝓡 .run)) 𝓜 𝓡 code.env #statuses·put put-def.routine code.calls-statuses·put (put-thm.met 𝓤 H 𝓜 𝓖 𝓡);
+      all-ready = cited 𝓤 H (AllReady 𝓤 H (𝓖 .A) (𝓜 .mem) (𝓡 .run)) 𝓜 𝓡 code.env #lent-statuses·all-ready all-ready-def.routine code.calls-lent-statuses·all-ready (all-ready-thm.met 𝓤 H 𝓜 𝓖 𝓡);
+      ready-status = cited 𝓤 H (ReadyStatus 𝓤 H (𝓖 .A) (𝓜 .mem) (𝓡 .run)) 𝓜 𝓡 code.env #lent-statuses·ready-status ready-status-def.routine code.calls-lent-statuses·ready-status (ready-status-thm.met 𝓤 H 𝓜 𝓖 𝓡);
+      status-at = cited 𝓤 H (StatusAt 𝓤 H (𝓖 .A) (𝓜 .mem) (𝓡 .run)) 𝓜 𝓡 code.env #lent-statuses·status-at status-at-def.routine code.calls-lent-statuses·status-at (status-at-thm.met 𝓤 H 𝓜 𝓖 𝓡);
+      put = cited 𝓤 H (Put 𝓤 H (𝓖 .A) (𝓜 .mem) (𝓡 .run)) 𝓜 𝓡 code.env #lent-statuses·put put-def.routine code.calls-lent-statuses·put (put-thm.met 𝓤 H 𝓜 𝓖 𝓡);
     }))

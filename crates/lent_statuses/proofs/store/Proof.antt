@@ -60,13 +60,13 @@ use Rattle.bits.proofs.at_most.Symbol.{name as #bits·at-most}
 use Rattle.bits.proofs.at_most.Met as at-most-thm
 use Rattle.lent_statuses.proofs.taken as taken
 use Rattle.lent_statuses.proofs.taken.Symbol as taken-def
-use Rattle.lent_statuses.proofs.taken.Symbol.{name as #statuses·taken}
+use Rattle.lent_statuses.proofs.taken.Symbol.{name as #lent-statuses·taken}
 use Rattle.lent_statuses.proofs.taken.Met as taken-thm
 use Rattle.lent_statuses.proofs.replace_status as replace-status
 use Rattle.lent_statuses.proofs.replace_status.Symbol as replace-status-def
-use Rattle.lent_statuses.proofs.replace_status.Symbol.{name as #statuses·replace-status}
+use Rattle.lent_statuses.proofs.replace_status.Symbol.{name as #lent-statuses·replace-status}
 use Rattle.lent_statuses.proofs.replace_status.Met as replace-status-thm
-use Rattle.lent_statuses.proofs.store.Key.{name as #statuses·store}
+use Rattle.lent_statuses.proofs.store.Key.{name as #lent-statuses·store}
 use Rattle.lent_statuses.proofs.store as f
 use Rattle.lent_statuses.proofs.store.Statement as stated
 use Rattle.lent_statuses.proofs.store.Code as code
@@ -122,8 +122,8 @@ module _ {M : Type 1} (𝓤 : URA M) (H : Heap 𝓤) (A : Atoms 𝓤) (mem : Mem
 
   record Known (C : Calls 𝓤 H) : Type 1 where
     at-most : Triple 𝓤 (C #bits·at-most) AtMost
-    takes : Triple 𝓤 (C #statuses·taken) Taken
-    replace-status : Triple 𝓤 (C #statuses·replace-status) Replace
+    takes : Triple 𝓤 (C #lent-statuses·taken) Taken
+    replace-status : Triple 𝓤 (C #lent-statuses·replace-status) Replace
 
 module _ {M : Type 1} (𝓤 : URA M) (H : Heap 𝓤) (A : Atoms 𝓤) (W : Given 𝓤 H A) (mem : Memory → SProp 𝓤) (run : Routine → Fun 𝓤) (κ : Lft) (q : Share) (b o : ℕ) (γ : GName) (ys ws : List Status) where
   abbrev x : GName → List Status → RefT (List Status)
@@ -284,9 +284,9 @@ pub store-spec : {M : Type 1} → stated.statement M
 unfolding code.routine tablesOf
 store-spec 𝓤 H 𝓜 𝓖 𝓡 =
     entered 𝓤 H (tripleOf 𝓤 H (𝓖 .A) f.signature (f.spec 𝓤 H (𝓖 .A) (𝓜 .mem) (𝓡 .run)))
-    (tables 𝓤 H 𝓜 𝓡 code.env .C) (tables 𝓤 H 𝓜 𝓡 code.env .Λ) #statuses·store code.function (code.unfolded 𝓤 H 𝓜 𝓡)
+    (tables 𝓤 H 𝓜 𝓡 code.env .C) (tables 𝓤 H 𝓜 𝓡 code.env .Λ) #lent-statuses·store code.function (code.unfolded 𝓤 H 𝓜 𝓡)
     (store-meets 𝓤 H (𝓖 .A) (givenOf 𝓤 H 𝓜 𝓖) (𝓜 .mem) (𝓡 .run) (tablesOf 𝓤 H 𝓜 (tables 𝓤 H 𝓜 𝓡 code.env)) (record {
       at-most = cited 𝓤 H (AtMost 𝓤 H (𝓖 .A) (𝓜 .mem) (𝓡 .run)) 𝓜 𝓡 code.env #bits·at-most at-most-def.routine code.calls-bits·at-most (at-most-thm.met 𝓤 H 𝓜 𝓖 𝓡);
-      takes = cited 𝓤 H (Taken 𝓤 H (𝓖 .A) (𝓜 .mem) (𝓡 .run)) 𝓜 𝓡 code.env #statuses·taken taken-def.routine code.calls-statuses·taken (taken-thm.met 𝓤 H 𝓜 𝓖 𝓡);
-      replace-status = cited 𝓤 H (Replace 𝓤 H (𝓖 .A) (𝓜 .mem) (𝓡 .run)) 𝓜 𝓡 code.env #statuses·replace-status replace-status-def.routine code.calls-statuses·replace-status (replace-status-thm.met 𝓤 H 𝓜 𝓖 𝓡);
+      takes = cited 𝓤 H (Taken 𝓤 H (𝓖 .A) (𝓜 .mem) (𝓡 .run)) 𝓜 𝓡 code.env #lent-statuses·taken taken-def.routine code.calls-lent-statuses·taken (taken-thm.met 𝓤 H 𝓜 𝓖 𝓡);
+      replace-status = cited 𝓤 H (Replace 𝓤 H (𝓖 .A) (𝓜 .mem) (𝓡 .run)) 𝓜 𝓡 code.env #lent-statuses·replace-status replace-status-def.routine code.calls-lent-statuses·replace-status (replace-status-thm.met 𝓤 H 𝓜 𝓖 𝓡);
     }))

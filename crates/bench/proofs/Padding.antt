@@ -1,10 +1,10 @@
 -- What the by-value core does with the statuses that are lent, padded with Ready to 32 or cut to 32, is what is said of the statuses
 -- that are lent: the padding is never seen, and a slice of more than 32 is refused for its length alone.
 use Prim.Native.Nat.{ℕ, _-_, _<_, _≤_}
-use mathlib.Core.Path.{_≡_, refl, ap, sym, _∙_}
+use mathlib.Core.Path.{_≡_, ap, sym, _∙_}
 use mathlib.Core.List.{List, _++_, append-nil}
 use native.Mathlib.Omega.{arith}
-use lib.ListN.{length, take, drop, replicate, length-append, length-replicate, drop-of-length-le, take-append-drop}
+use lib.ListN.{length, take, drop, replicate, length-append, drop-of-length-le, take-append-drop}
 use lib.Seq.{take-all, take-at, take-append-seam}
 use Rattle.bits.proofs.Numbers.{by-le}
 use Rattle.trace.specs.Lent.{Left, unchanged, unless}
@@ -17,14 +17,14 @@ use Rattle.feed.specs.declared.Fed.{Fed}
 use Rattle.set_up.specs.declared.SetUp.{SetUp}
 use Rattle.demand3.specs.Held.{Held, held, lentOf}
 use Rattle.demand3.specs.SettingUp.{Prepared, freshHeld, setsUp}
-use Rattle.set_up.specs.inner.Prepared.{prepared}
+use Rattle.set_up.specs.Prepared.{prepared}
 use Rattle.demand3.specs.Feeding.{bench, feeds}
 use Rattle.feed.specs.Left.{left}
 use Rattle.set_up.proofs.Lent.{length-lent, lent-take}
 use Rattle.set_up.proofs.Stopping.{too-many}
 use Rattle.bench.specs.declared.Outcome.{Outcome}
-use Rattle.lent_statuses.specs.inner.Statuses.{storedOver}
-use Rattle.bench.specs.Entries.{leftBySetUp, leftByFeed}
+use Rattle.lent_statuses.specs.Statuses.{storedOver}
+use Rattle.bench.specs.Entries.{leftBySetUp, leftByFeed, outcomeIs}
 
 -- the statuses as the core has them
 abbrev pub given : List Status → List Status
@@ -88,14 +88,14 @@ module _ (setup : Setup) (defaults : List ℕ) (port : Port) (l : List Status) (
       (λ i. leftBySetUp (same i .number) (same i .held .port) (s i) (same i .held .live) (same i .held .cells)) ∙ sym (set-up-many setup defaults (atEntry l) h))
 
   -- FEED
-  pub fed-as-lent : (input answers : List ℕ) (r : Fed) (o : Outcome) (live₁ cells₁ answers₁ : List ℕ) → length (r .statuses) ≡ 32 → o ≡ record { number = r .number; consumed = r .consumed; written = r .written }
+  pub fed-as-lent : (input answers : List ℕ) (r : Fed) (o : Outcome) (live₁ cells₁ answers₁ : List ℕ) → length (r .statuses) ≡ 32 → o ≡ outcomeIs r
       → left (length l) r live₁ cells₁ answers₁ ≡ feeds setup defaults (atEntry (given l)) input answers
       → leftByFeed o (r .port) (storedOver l (r .statuses)) live₁ cells₁ answers₁ ≡ feeds setup defaults (atEntry l) input answers
   fed-as-lent input answers r o live₁ cells₁ answers₁ n eo e =
       by-le (length l) 32
       (λ h.
       ap (λ (p : Outcome). leftByFeed p (r .port) (storedOver l (r .statuses)) live₁ cells₁ answers₁) eo
-      ∙ ap (λ (s : List Status). leftByFeed (record { number = r .number; consumed = r .consumed; written = r .written }) (r .port) s live₁ cells₁ answers₁) (stored-few l (r .statuses) h n)
+      ∙ ap (λ (s : List Status). leftByFeed (outcomeIs r) (r .port) s live₁ cells₁ answers₁) (stored-few l (r .statuses) h n)
       ∙ e
       ∙ ap (λ (s : List Status). feeds setup defaults (atEntry s) input answers) (given-few l h))
       (λ h.

@@ -6,6 +6,7 @@ use Rattle.readiness.specs.declared.Status.{Status}
 use Rattle.records.specs.declared.Port.{Port}
 use Rattle.demand3.specs.Held.{Held, held}
 use Rattle.demand3.specs.SettingUp.{Prepared}
+use Rattle.feed.specs.declared.Fed.{Fed}
 use Rattle.bench.specs.declared.Outcome.{Outcome}
 
 -- set-up: its number; port, statuses, live registers and queue cells at exit
@@ -16,3 +17,7 @@ leftBySetUp number port statuses live cells = record { number = number; held = h
 abbrev pub leftByFeed : Outcome → Port → List Status → (live cells answers : List ℕ) → Left Held
 leftByFeed r port statuses live cells answers =
     record { number = r .number; consumed = r .consumed; written = r .written; held = held port statuses live cells; answers = answers }
+
+-- number and counts of what the code of feed gives
+abbrev pub outcomeIs : Fed → Outcome
+outcomeIs r = record { number = r .number; consumed = r .consumed; written = r .written }

@@ -3,7 +3,7 @@ ghost use mathlib.Core.Path.{_≡_};
 ghost use Rattle.demand3.specs.Held.{held};
 ghost use Rattle.demand3.specs.SettingUp.{setsUp};
 ghost use Rattle.demand3.specs.Feeding.{feeds};
-ghost use Rattle.bench.specs.Entries.{leftBySetUp, leftByFeed};
+ghost use Rattle.bench.specs.Entries.{leftBySetUp, leftByFeed, outcomeIs};
 use feed::Fed;
 use lent_statuses::load;
 use lent_statuses::store;
@@ -72,7 +72,7 @@ fn statuses_fed(fed: Fed) -> [Status; 32]
 }
 
 fn outcome_of(fed: Fed) -> Outcome
-    ensures { λ r. ⌜ r ≡ record { number = fed .number; consumed = fed .consumed; written = fed .written } ⌝ }
+    ensures { λ r. ⌜ r ≡ outcomeIs fed ⌝ }
 {
     Outcome {
         number: fed.number,

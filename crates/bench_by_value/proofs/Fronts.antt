@@ -1,7 +1,7 @@
 -- What the entries do with the first n of an array's statuses, at most all 32.
-use Prim.Native.Nat.{ℕ, _<_, _≤_, min}
-use mathlib.Core.Path.{_≡_, refl, ap, sym, _∙_}
-use mathlib.Core.List.{List, [], _++_}
+use Prim.Native.Nat.{ℕ, min}
+use mathlib.Core.Path.{_≡_, ap, _∙_}
+use mathlib.Core.List.{List, _++_}
 use lib.ListN.{length, take, drop}
 use Rattle.bits.proofs.Lists.{take-min, drop-min}
 use Rattle.trace.specs.Lent.{Left}

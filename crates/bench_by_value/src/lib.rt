@@ -1,7 +1,7 @@
 // The public entries for callers that hold a port and an array of statuses by value.
 ghost use mathlib.Core.Path.{_≡_};
 ghost use Rattle.demand3.specs.Held.{held};
-ghost use Rattle.bench.specs.Entries.{leftBySetUp, leftByFeed};
+ghost use Rattle.bench.specs.Entries.{leftBySetUp, leftByFeed, outcomeIs};
 ghost use Rattle.bench_by_value.specs.First.{setsUpFirst, feedsFirst};
 use bench::Outcome;
 use bits::at_most;
@@ -65,7 +65,7 @@ pub fn feed_first(
     input: &[u8],
     answers: &mut [u8],
 ) -> Fed
-    ensures { λ r. ⌜ leftByFeed (record { number = r .number; consumed = r .consumed; written = r .written }) (r .port) (r .statuses) (now (live .exit)) (now (cells .exit)) (now (answers .exit))
+    ensures { λ r. ⌜ leftByFeed (outcomeIs r) (r .port) (r .statuses) (now (live .exit)) (now (cells .exit)) (now (answers .exit))
         ≡ feedsFirst n setup (now (defaults .entry)) (held port statuses (now (live .entry)) (now (cells .entry))) (now (input .entry)) (now (answers .entry)) ⌝ }
 {
     let mut own = port;

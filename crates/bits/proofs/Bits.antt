@@ -2,15 +2,15 @@
 use mathlib.Core.Path.{_≡_, refl, sym, ap, ap₂, _∙_, subst}
 use mathlib.Core.Bool.{Bool, true, false, not, _&&_, _||_}
 use Prim.Native.Nat.{ℕ, zero, suc, _+_, _-_, _*_, _/_, _%_, _^_, _≤_, _<_, min, max}
-use native.Mathlib.Nat.{mod-lt, zero-lt-suc, pow-suc, mod-eq-of-lt, eq-or-lt-of-le, div-eq-of-lt, lt-of-lt-of-le, lt-of-le-of-lt, mul-assoc, zero-mul, one-mul}
+use native.Mathlib.Nat.{mod-lt, zero-lt-suc, pow-suc, mod-eq-of-lt, eq-or-lt-of-le, div-eq-of-lt, lt-of-lt-of-le, zero-mul, one-mul}
 use native.Mathlib.Numerals.{one-add}
 use native.Mathlib.Omega.{arith}
 use mathlib.Core.Logic.{⊎-elim}
-use lib.Dec.{eqb, leb, ltb, lit<}
-use borrow.Author.Tests.{leb-true, leb-false, ltb-true, ltb-false, eq-eqb, ne-eqb, not-true, not-false}
+use lib.Dec.{eqb, lit<}
+use borrow.Author.Tests.{eq-eqb, ne-eqb, not-true, not-false}
 use lib.Arith.{digits-mod, digits-lt}
-use lib.Pow.{pow-pos, pow-mono, pow-add, split, high, low, shl-shr, shr-shr, shr-lt, shr-le, field, mod-mod-pow, ones-sub-lt}
-use lib.Bits.{bitAnd, bitOr, and-step, or-step, and-shr, or-shr, and-lt, or-lt, and-high, shifted-even}
+use lib.Pow.{pow-pos, pow-mono, split, high, low, shr-shr, shr-lt, field, mod-mod-pow, ones-sub-lt}
+use lib.Bits.{bitAnd, bitOr, and-step, or-step, and-shr, or-shr, and-lt, or-lt, and-high}
 use mir.Syntax.{w32}
 use mir.Val.{Fits}
 use Rattle.bits.specs.Bits.{bit, one, number, word}
@@ -32,7 +32,7 @@ digit-of zero h = refl
 digit-of (suc zero) h = refl
 digit-of (suc (suc d)) h = absurd (omega arith)
 
-is-one : (b : Bool) → eqb (one b) 1 ≡ b
+pub is-one : (b : Bool) → eqb (one b) 1 ≡ b
 is-one true = refl
 is-one false = refl
 
@@ -177,25 +177,7 @@ bit-word f k h = is-word refl .bits k h
 pub word-ext : {f g : ℕ → Bool} → ((k : ℕ) → k < 32 → f k ≡ g k) → word f ≡ word g
 word-ext e = is-the (is-word refl) e
 
--- ---- shifts by a fixed number of bits, and a test of one bit
-
--- to the left: a bit comes from the one s below it, and the s low bits are 0
-pub bit-shl : (x s k : ℕ) → bit (x * 2 ^ s) (s + k) ≡ bit x k
-unfolding bit
-bit-shl x s k = ap (λ (n : ℕ). eqb (n % 2) 1) (sym (shr-shr (x * 2 ^ s) s k) ∙ ap (λ (n : ℕ). n / 2 ^ k) (shl-shr x s))
-
-pub bit-shl-low : (x s k : ℕ) → k < s → bit (x * 2 ^ s) k ≡ false
-unfolding bit
-bit-shl-low x s k h =
-    let j : ℕ = s - suc k in
-    let e : s ≡ suc j + k = omega arith in
-    let m : x * 2 ^ s ≡ (x * 2 ^ suc j) * 2 ^ k = ap (λ (n : ℕ). x * 2 ^ n) e ∙ ap (λ (n : ℕ). x * n) (pow-add 2 (suc j) k) ∙ sym (mul-assoc x (2 ^ suc j) (2 ^ k)) in
-    ap (λ (n : ℕ). eqb (n % 2) 1) (ap (λ (n : ℕ). n / 2 ^ k) m ∙ shl-shr (x * 2 ^ suc j) k) ∙ ap (λ (n : ℕ). eqb n 1) (shifted-even x j)
-
--- to the right: a bit comes from the one s above it
-pub bit-shr : (x s k : ℕ) → bit (x / 2 ^ s) k ≡ bit x (s + k)
-unfolding bit
-bit-shr x s k = ap (λ (n : ℕ). eqb (n % 2) 1) (shr-shr x s k)
+-- ---- a test of one bit
 
 -- a number below 2 ^ n has no bit from n on
 pub bit-above : (x n k : ℕ) → x < 2 ^ n → n ≤ k → bit x k ≡ false
@@ -203,25 +185,6 @@ unfolding bit
 bit-above x n k hx h =
     let e : x / 2 ^ k ≡ 0 = div-eq-of-lt (lt-of-lt-of-le hx (pow-mono h)) in
     ap (λ (m : ℕ). eqb (m % 2) 1) e
-
-pub is-shl : {x : ℕ} {f : ℕ → Bool} (s : ℕ) → Is x f → Is (x * 2 ^ s % 2 ^ 32) (λ k. leb s k && f (k - s))
-is-shl {x} {f} s p =
-    let at : (k : ℕ) → k < 32 → (b : Bool) → leb s k ≡ b → bit (x * 2 ^ s) k ≡ (b && f (k - s)) =
-    λ k l. elim [
-      | true ↦ λ e. let h : s ≤ k = leb-true s k e in let m : k ≡ s + (k - s) = omega arith in
-          ap (bit (x * 2 ^ s)) m ∙ bit-shl x s (k - s) ∙ p .bits (k - s) (omega arith)
-      | false ↦ λ e. bit-shl-low x s k (leb-false s k e)
-    ] in
-    record { below = mod-lt (x * 2 ^ s) (pow-pos 32); bits = λ k l. bit-low (x * 2 ^ s) 32 k l ∙ at k l (leb s k) refl }
-
-pub is-shr : {x : ℕ} {f : ℕ → Bool} (s : ℕ) → Is x f → Is (x / 2 ^ s) (λ k. ltb (s + k) 32 && f (s + k))
-is-shr {x} {f} s p =
-    let at : (k : ℕ) → (b : Bool) → ltb (s + k) 32 ≡ b → bit x (s + k) ≡ (b && f (s + k)) =
-    λ k. elim [
-      | true ↦ λ e. p .bits (s + k) (ltb-true (s + k) 32 e)
-      | false ↦ λ e. bit-above x 32 (s + k) (p .below) (ltb-false (s + k) 32 e)
-    ] in
-    record { below = lt-of-le-of-lt (shr-le x s) (p .below); bits = λ k l. bit-shr x s k ∙ at k (ltb (s + k) 32) refl }
 
 -- a digit times what is not 0 is 0 where the digit is
 digit-times : (d : ℕ) → d < 2 → (p : ℕ) → 0 < p → eqb (d * p) 0 ≡ not (eqb d 1)

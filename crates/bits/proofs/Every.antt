@@ -1,6 +1,6 @@
 -- Laws of a test at every number below a bound.
-use mathlib.Core.Path.{_≡_, refl, sym, ap, _∙_}
-use mathlib.Core.Bool.{Bool, true, false, _&&_, true≢false}
+use mathlib.Core.Path.{_≡_, refl, sym, _∙_}
+use mathlib.Core.Bool.{Bool, true, false, true≢false}
 use mathlib.Core.Logic.{⊎-elim}
 use Prim.Native.Nat.{ℕ, zero, suc, _+_, _<_}
 use native.Mathlib.Nat.{eq-or-lt-of-le}
@@ -33,9 +33,3 @@ every-more n p e f = rw add-one (both (every n p) (p n) e f)
 
 pub every-not : (n : ℕ) (p : ℕ → Bool) (i : ℕ) → i < n → p i ≡ false → every n p ≡ false
 every-not n p i h e = untrue (every n p) (λ q. true≢false (sym (every-at n p q i h) ∙ e))
-
--- two tests that agree below the bound
-pub every-ext : (n : ℕ) (p q : ℕ → Bool) → ((i : ℕ) → i < n → p i ≡ q i) → every n p ≡ every n q
-unfolding every
-every-ext zero p q h = refl
-every-ext (suc n) p q h = rw (every-ext n p q (λ i k. h i (omega arith)), h n (omega arith))

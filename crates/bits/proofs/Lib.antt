@@ -4,5 +4,6 @@ pub mod Choices
 pub mod Every
 pub mod Numbers
 pub mod Lists
+pub mod Bytes
 pub mod Lanes
 pub mod Examples

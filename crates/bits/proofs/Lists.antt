@@ -9,7 +9,7 @@ use native.Mathlib.Numerals.{add-one}
 use native.Mathlib.Omega.{arith}
 use lib.Dec.{eqb, ltb}
 use lib.ListN.{length, getD, set, take, drop, replicate, length-append, length-set, length-replicate, drop-of-length-le, List·getD-append, List·getD-eq-default}
-use lib.Seq.{drop-cons, take-suc, take-all, take-append-seam, append-snoc, length-take-le, set-at, set-append-seam, getD-at, getD-append-add, getD-take, getD-drop, getD-set-same, getD-set-other, ext-getD}
+use lib.Seq.{drop-cons, take-suc, take-all, take-append-seam, append-snoc, length-take-le, set-at, set-append-seam, getD-at, getD-set-same, getD-set-other, ext-getD}
 use borrow.Author.Tests.{eqb-true, eqb-false, ltb-true, ltb-false}
 use Rattle.bits.specs.Lists.{listed, replaced}
 use Rattle.bits.proofs.Numbers.{by-le}
@@ -26,13 +26,6 @@ length-listed (suc n) f = omega (arith, length-append (listed n f) (f n ∷ []),
 pub done-none : (f : ℕ → ℕ) (l : List ℕ) → l ≡ done 0 f l
 unfolding done listed
 done-none f l = refl
-
-pub done-at : (i : ℕ) (f : ℕ → ℕ) (l : List ℕ) → getD (done i f l) i 0 ≡ getD l i 0
-unfolding done
-done-at i f l =
-    let e : i ≡ length (listed i f) + 0 = omega (arith, length-listed i f) in
-    let z : i + 0 ≡ i = omega arith in
-    ap (λ (k : ℕ). getD (listed i f ++ drop i l) k 0) e ∙ getD-append-add (listed i f) (drop i l) 0 0 ∙ getD-drop i l 0 0 ∙ ap (λ (k : ℕ). getD l k 0) z
 
 pub done-more : (i : ℕ) (f : ℕ → ℕ) (l : List ℕ) → i < length l → set (done i f l) i (f i) ≡ done (i + 1) f l
 unfolding done listed
@@ -136,12 +129,6 @@ module _ {A : Type 0} where
       let b : length l ≤ n = omega arith in
       drop-of-length-le l a ∙ sym (drop-of-length-le l b))
 
-  -- an element that is there, whatever stands for one past the end
-  pub getD-any : (l : List A) (i : ℕ) (d e : A) → i < length l → getD l i d ≡ getD l i e
-  getD-any [] i d e h = absurd (omega arith)
-  getD-any (a ∷ l) zero d e h = refl
-  getD-any (a ∷ l) (suc i) d e h = getD-any l i d e (omega arith)
-
   -- the same element everywhere, and past the end
   pub getD-same : (n i : ℕ) (a : A) → getD (replicate n a) i a ≡ a
   getD-same zero i a = refl
@@ -186,7 +173,3 @@ module _ {A : Type 0} where
       ∙ set-append-seam c a (replicate (m - length (c ++ b ∷ [])) a) b
       ∙ sym (append-snoc c b (replicate (m - length (c ++ b ∷ [])) a))
       ∙ ap (padded a m) (sym (take-suc l j a k) ∙ ap (λ (i : ℕ). take i l) (sym (add-one j)))
-
-  -- an element of the first n of a list, with others after them
-  pub getD-front : (l r : List A) (n i : ℕ) (d : A) → i < n → n ≤ length l → getD (take n l ++ r) i d ≡ getD l i d
-  getD-front l r n i d h k = List·getD-append (take n l) r d i (omega (arith, length-take-le n l k)) ∙ getD-take n l i d h

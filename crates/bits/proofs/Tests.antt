@@ -66,6 +66,15 @@ both-right true b e = e
 both-right false true e = refl
 both-right false false e = e
 
+-- each of two tests where another is
+pub and-each : (a b c d : Bool) → (a ≡ true → c ≡ true) → (b ≡ true → d ≡ true) → (a && b) ≡ true → (c && d) ≡ true
+and-each true b c d f g e = rw (f refl) (g e)
+and-each false b c d f g e = absurd (true≢false (sym e))
+
+pub or-right : (n a b : Bool) → (a ≡ true → b ≡ true) → (n || a) ≡ true → (n || b) ≡ true
+or-right true a b f e = refl
+or-right false a b f e = f e
+
 pub both : (a b : Bool) → a ≡ true → b ≡ true → (a && b) ≡ true
 both a b e d = rw (e, d) refl
 

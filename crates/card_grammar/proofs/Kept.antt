@@ -15,7 +15,7 @@ use Rattle.bits.proofs.Tests.{both-left, both-right, not-both, or-last}
 use Rattle.card_grammar.specs.declared.Reason.{Reason}
 use Rattle.card_grammar.specs.declared.Reason.the-variants.{Fine, BadNumber, LineTooShort, OutOfRange, SlotsFirst, Missing}
 use Rattle.text_fields.specs.Text.{numberAt, field, noField, noNumber}
-use Rattle.card_grammar.specs.Grammar.{notNamed, wordPlace, slotsPlace, queuePlace, busPlace, portPlace, entryPlace, places, named, isFine, firstOf, unfit, wantsWord, wantsNumber, inRange, slotAllowed, Entered, entered, put, whyNotNumber, enterNumber, slotAt, hexAt, codeAt, offsetAllowed, wordAllowed, whyNotWord, enterWord, isYes, wantsCode, whyNotCodes, whyNotFrs, whyNotSlot, putCode, putFrs, enterSlot, isFact, enterLine, Told, readLines}
+use Rattle.card_grammar.specs.Grammar.{notNamed, defaultPlace, slotsPlace, queuePlace, busPlace, portPlace, entryPlace, places, named, isFine, firstOf, unfit, wantsWord, wantsNumber, inRange, slotAllowed, Entered, entered, put, whyNotNumber, enterNumber, slotAt, hexAt, codeAt, offsetAllowed, wordAllowed, whyNotWord, enterWord, isYes, wantsCode, whyNotCodes, whyNotFrs, whyNotSlot, putCode, putFrs, enterSlot, isFact, enterLine, Told, readLines}
 use Rattle.card_grammar.specs.Names.{nameSlots, nameQueue, nameBus, namePort, nameSlot, nameWord, nameReset, nameDlUp, nameFlr, nameD3hot}
 use Rattle.card_grammar.specs.Card.{blankSheet, namedBelow}
 use Rattle.text_fields.proofs.Numbers.{code-small}
@@ -125,14 +125,14 @@ unfolding enterWord whyNotWord wordAllowed
 kept-word line sheet k =
     let n : ℕ = slotAt line in
     let o : ℕ = hexAt 2 line in
-    kept-put (whyNotWord line sheet) (wordPlace n o) (hexAt 3 line) sheet k
+    kept-put (whyNotWord line sheet) (defaultPlace n o) (hexAt 3 line) sheet k
     (λ e.
     let third = fine-both _ _ (fine-both _ _ (fine-both _ _ e .1) .1) in
     let both = fine-both _ _ (third .1) .1 in
     let v : hexAt 3 line < noNumber = fine-number true 1 8 3 line (third .0) in
     let a : n < 32 = slot-below n sheet k (fine-both _ _ both .0) in
     let b : o < 256 = offset-below o (fine-both _ _ (fine-both _ _ both .1) .0) in
-    allowed-word (wordPlace n o) (hexAt 3 line) (omega arith) (omega arith))
+    allowed-word (defaultPlace n o) (hexAt 3 line) (omega arith) (omega arith))
 
 -- a code has three digits
 fine-code : (name : List ℕ) (j next : ℕ) (line : List ℕ) → isFine (wantsCode name j next line) ≡ true → codeAt next line ≤ 0xFFF

@@ -11,7 +11,7 @@ use borrow.Author.Tests.{eqb-true}
 use Rattle.card_grammar.specs.declared.Reason.{Reason}
 use Rattle.card_grammar.specs.declared.Reason.the-variants.{NoRoom}
 use Rattle.text_fields.specs.Text.{linesOf}
-use Rattle.card_grammar.specs.Grammar.{notNamed, wordPlace, slotsPlace, queuePlace, busPlace, portPlace, entryPlace, named, isFine, firstOf, enterLine, Told, readLines}
+use Rattle.card_grammar.specs.Grammar.{notNamed, defaultPlace, slotsPlace, queuePlace, busPlace, portPlace, entryPlace, named, isFine, firstOf, enterLine, Told, readLines}
 use Rattle.card_grammar.specs.Card.{blankSheet, namedBelow, setupFrom, mustBeNamed, missing, room, wordsFrom, storedWords, outcomeFrom, cardOf}
 use Rattle.card_grammar.proofs.Comments.{comment-line}
 use Rattle.card_grammar.proofs.Kept.{fine-both, fine-test, fine-named, kept-lines, kept-blank, within, orZero, whole-word, whole-code}
@@ -84,8 +84,8 @@ accepted text words e =
 
 -- no default word and no code that a text names is cut: a word has up to eight hex digits, a code three
 pub words-whole : (text : List ℕ) (n offset : ℕ) → n < 32 → offset < 256
-    → namedBelow 4294967296 (wordPlace n offset) (sheetOf text) ≡ orZero (named (wordPlace n offset) (sheetOf text))
-words-whole text n offset h k = whole-word (sheetOf text) (kept-lines (linesOf text) 0 blankSheet kept-blank) (wordPlace n offset) (omega arith)
+    → namedBelow 4294967296 (defaultPlace n offset) (sheetOf text) ≡ orZero (named (defaultPlace n offset) (sheetOf text))
+words-whole text n offset h k = whole-word (sheetOf text) (kept-lines (linesOf text) 0 blankSheet kept-blank) (defaultPlace n offset) (omega arith)
 
 pub codes-whole : (text : List ℕ) (n j : ℕ) → namedBelow 0x1000 (entryPlace n j) (sheetOf text) ≡ orZero (named (entryPlace n j) (sheetOf text))
 codes-whole text n j = whole-code (sheetOf text) (kept-lines (linesOf text) 0 blankSheet kept-blank) n j

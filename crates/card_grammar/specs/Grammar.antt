@@ -35,8 +35,8 @@ abbrev pub notNamed : ℕ
 notNamed = 4294967296
 
 -- the default word of slot n at a byte offset
-abbrev pub wordPlace : (n offset : ℕ) → ℕ
-wordPlace n offset = n * 64 + offset / 4
+abbrev pub defaultPlace : (n offset : ℕ) → ℕ
+defaultPlace n offset = n * 64 + offset / 4
 
 abbrev pub slotsPlace : ℕ
 slotsPlace = 2048
@@ -152,7 +152,7 @@ offsetAllowed offset = cond (ltb offset 0x100 && eqb (offset % 4) 0) Fine OutOfR
 unfoldable pub wordAllowed : (line sheet : List ℕ) → Reason
 wordAllowed line sheet =
     firstOf (slotAllowed (slotAt line) sheet)
-    (firstOf (offsetAllowed (hexAt 2 line)) (notTwice (wordPlace (slotAt line) (hexAt 2 line)) sheet))
+    (firstOf (offsetAllowed (hexAt 2 line)) (notTwice (defaultPlace (slotAt line) (hexAt 2 line)) sheet))
 
 unfoldable pub whyNotWord : (line sheet : List ℕ) → Reason
 whyNotWord line sheet =
@@ -163,7 +163,7 @@ whyNotWord line sheet =
 unfoldable pub enterWord : (line sheet : List ℕ) → Entered
 enterWord line sheet =
     let why = whyNotWord line sheet in
-    entered why (put why (wordPlace (slotAt line) (hexAt 2 line)) (hexAt 3 line) sheet)
+    entered why (put why (defaultPlace (slotAt line) (hexAt 2 line)) (hexAt 3 line) sheet)
 
 -- yes or no
 abbrev pub isYes : ℕ → List ℕ → Bool

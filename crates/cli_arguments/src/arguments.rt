@@ -35,15 +35,6 @@ pub fn arg_is(i: usize, word: &[u8]) -> bool {
     is_word(&arg, n, word)
 }
 
-// Whether the script wants the exit status.
-pub fn wants_status() -> bool {
-    let n = os::arg_count();
-    if n > 1 {
-        return arg_is(n - 1, b"--status");
-    }
-    false
-}
-
 // How many arguments there are, the program's name with them.
 pub fn arg_count() -> usize {
     let n = os::arg_count();

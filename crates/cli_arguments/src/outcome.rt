@@ -1,6 +1,6 @@
 // How a run of the program ends. A program of Rattle has no exit status: where its last argument is `--status`, which the script
 // `otsnebura` adds, it writes a digit to descriptor 3, which the script opens and exits with.
-use crate::arguments::wants_status;
+use crate::arguments::arg_count;
 
 pub enum Outcome {
     // 0
@@ -19,6 +19,11 @@ pub fn report(outcome: Outcome) {
         Outcome::Refused => tell(b"1"),
         Outcome::Unusable => tell(b"2"),
     }
+}
+
+// Whether the script wants the exit status.
+fn wants_status() -> bool {
+    arg_count() < os::arg_count()
 }
 
 fn tell(digit: &[u8]) {

@@ -36,10 +36,9 @@ fn no_card(outcome: Outcome) -> Loaded {
 
 // ---- Why a text is no card
 
-// What is wrong, and what was expected.
-fn put_reason(line: &mut [u8], at: usize, reason: Reason) -> usize {
+// What is wrong with the fields of a line, and what was expected.
+fn put_field_reason(line: &mut [u8], at: usize, reason: Reason) -> usize {
     match reason {
-        Reason::Fine => put_text(line, at, b"fine"),
         Reason::UnknownWord => put_text(
             line,
             at,
@@ -60,6 +59,13 @@ fn put_reason(line: &mut [u8], at: usize, reason: Reason) -> usize {
             at,
             b"something stands after the fact: expected one fact, or # and a comment after it",
         ),
+        _ => put_text(line, at, b"fine"),
+    }
+}
+
+// What is wrong, and what was expected.
+fn put_reason(line: &mut [u8], at: usize, reason: Reason) -> usize {
+    match reason {
         Reason::OutOfRange => put_text(
             line,
             at,
@@ -81,6 +87,7 @@ fn put_reason(line: &mut [u8], at: usize, reason: Reason) -> usize {
             b"a fact is missing: expected slots, queue, bus and port by the end",
         ),
         Reason::NoRoom => put_text(line, at, b"no room"),
+        _ => put_field_reason(line, at, reason),
     }
 }
 

@@ -75,7 +75,7 @@ fn print_card(printed: &mut [u8], setup: Setup, queue: usize, words: &[u32]) -> 
 }
 
 // Says where the set-up of the card that argument i names is refused.
-fn outcome_of(i: usize, setup: Setup, number: u8, words: &[u32]) -> Outcome {
+fn outcome_of_set_up(i: usize, setup: Setup, number: u8, words: &[u32]) -> Outcome {
     if number != 0 {
         return complain_refusal(i, setup, number, words);
     }
@@ -88,5 +88,5 @@ pub fn show_card(i: usize, loaded: Loaded, words: &[u32]) -> Outcome {
     let setup = loaded.setup;
     let error = print_card(&mut printed, setup, loaded.queue, words);
     let number = refusal_of(setup, loaded.queue, words);
-    unless_error(error, outcome_of(i, setup, number, words))
+    unless_error(error, outcome_of_set_up(i, setup, number, words))
 }

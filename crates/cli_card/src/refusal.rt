@@ -116,17 +116,19 @@ fn put_bad_word(line: &mut [u8], at: usize, setup: Setup, words: &[u32]) -> usiz
     let c = put_hex2(&mut *line, b, u64_of_usize(index % 64 * 4));
     let d = put_text(&mut *line, c, b"h has ");
     let e = put_word(&mut *line, d, word_at(words, index));
-    put_expected(line, e, zeros_of(setup, index))
+    put_zeros(line, e, zeros_of(setup, index))
 }
 
-fn put_expected(line: &mut [u8], at: usize, zeros: u32) -> usize {
+// What was expected of it.
+fn put_zeros(line: &mut [u8], at: usize, zeros: u32) -> usize {
     let a = put_text(&mut *line, at, b", expected 0 in the bits of ");
     put_word(line, a, zeros)
 }
 
 // ---- The refusal
 
-fn put_fault(line: &mut [u8], at: usize, number: u8, setup: Setup, words: &[u32]) -> usize {
+// The slot, or the word, that the refusal is about.
+fn put_refused(line: &mut [u8], at: usize, number: u8, setup: Setup, words: &[u32]) -> usize {
     match number {
         3 => put_bad_slot(line, at, setup),
         4 => put_bad_word(line, at, setup, words),
@@ -139,7 +141,7 @@ pub fn complain_refusal(i: usize, setup: Setup, number: u8, words: &[u32]) -> Ou
     let mut line = [0u8; LINE];
     name_file(i);
     let a = put_refusal(&mut line, 0, number);
-    let b = put_fault(&mut line, a, number, setup, words);
+    let b = put_refused(&mut line, a, number, setup, words);
     complain_line(&line, b);
     Outcome::Refused
 }

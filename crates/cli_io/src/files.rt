@@ -1,5 +1,5 @@
 // Files by the arguments that name them, and what is wrong with them.
-use text_line::numbers::wide;
+use bits::u64_of_usize;
 use text_line::text::LINE;
 use text_line::text::put_named;
 use text_line::text::put_text;
@@ -27,7 +27,7 @@ pub fn name_file(i: usize) {
 // An argument that can be no file's name.
 fn no_name(i: usize) -> i32 {
     let mut line = [0u8; LINE];
-    let a = put_named(&mut line, 0, b"argument ", wide(i));
+    let a = put_named(&mut line, 0, b"argument ", u64_of_usize(i));
     let b = put_text(
         &mut line,
         a,

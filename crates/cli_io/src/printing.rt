@@ -1,6 +1,8 @@
 // Output that is written in large pieces: bytes wait in a buffer until it is full.
+ghost use mathlib.Core.Path.{_≡_};
+ghost use lib.IntN.{pos};
 use crate::files::last_error;
-use text_line::numbers::at_most;
+use bits::at_most;
 use text_line::text::LINE;
 use text_line::text::put_byte;
 
@@ -10,7 +12,9 @@ pub struct Waiting {
     pub error: i32,
 }
 
-pub fn nothing_waits() -> Waiting {
+pub fn nothing_waits() -> Waiting
+    ensures { λ r. ⌜ r ≡ record { count = 0; error = pos 0 } ⌝ }
+{
     Waiting { count: 0, error: 0 }
 }
 

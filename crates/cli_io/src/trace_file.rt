@@ -1,11 +1,18 @@
 // A trace file: read in pieces, and taken record by record.
+ghost use mathlib.Core.Path.{_≡_};
+ghost use mathlib.Core.Bool.{false, _&&_};
+ghost use Prim.Native.Nat.{_+_, min};
+ghost use lib.Dec.{leb, ltb};
+ghost use lib.IntN.{pos};
+ghost use lib.ListN.{getD, replicate};
 use crate::files::complain_line;
 use crate::files::last_error;
 use crate::files::name_file;
+use bits::at_most;
+use bits::byte_at;
+use bits::u64_of_u8;
+use bits::u64_of_usize;
 use decode::gathering::size_of;
-use text_line::numbers::byte_at;
-use text_line::numbers::wide;
-use text_line::numbers::wide8;
 use text_line::text::LINE;
 use text_line::text::put_hex2;
 use text_line::text::put_named;
@@ -23,7 +30,9 @@ pub struct Piece {
     pub error: i32,
 }
 
-pub fn nothing_read() -> Piece {
+pub fn nothing_read() -> Piece
+    ensures { λ r. ⌜ r ≡ record { from = 0; to = 0; ended = false; error = pos 0 } ⌝ }
+{
     Piece {
         from: 0,
         to: 0,
@@ -55,17 +64,24 @@ pub fn read_piece(fd: i32, buffer: &mut [u8]) -> Piece {
     piece_of(io::count(got, buffer))
 }
 
+// An index moved on by n, up to the end.
+fn moved_on(from: usize, to: usize, n: usize) -> usize
+    ensures { λ r. ⌜ r ≡ min (from + n) to ⌝ }
+{
+    if to <= from {
+        return to;
+    }
+    from + at_most(n, to - from)
+}
+
 // The piece without its first n bytes, or without any.
 pub fn passed(piece: Piece, n: usize) -> Piece {
-    let mut p = piece;
-    if n <= piece.to {
-        if piece.from <= piece.to - n {
-            p.from = piece.from + n;
-            return p;
-        }
+    Piece {
+        from: moved_on(piece.from, piece.to, n),
+        to: piece.to,
+        ended: piece.ended,
+        error: piece.error,
     }
-    p.from = piece.to;
-    p
 }
 
 // ---- Records
@@ -84,7 +100,9 @@ pub struct Took {
     pub from: usize,
 }
 
-pub fn nothing_held() -> Held {
+pub fn nothing_held() -> Held
+    ensures { λ r. ⌜ r ≡ record { bytes = replicate 17 0; count = 0; size = 0 } ⌝ }
+{
     Held {
         bytes: [0u8; 17],
         count: 0,
@@ -115,7 +133,9 @@ fn with_byte(held: Held, b: u8) -> Held {
 }
 
 // Whether a record is there as a whole, or a byte that is no kind.
-pub fn is_full(held: Held) -> bool {
+pub fn is_full(held: Held) -> bool
+    ensures { λ r. ⌜ r ≡ (ltb 0 (held .count) && leb (held .size) (held .count)) ⌝ }
+{
     (held.count > 0) & (held.count >= held.size)
 }
 
@@ -143,7 +163,9 @@ pub struct Fault {
     pub size: usize,
 }
 
-pub fn fault_in(held: Held) -> Fault {
+pub fn fault_in(held: Held) -> Fault
+    ensures { λ r. ⌜ r ≡ record { kind = getD (held .bytes) 0 0; count = held .count; size = held .size } ⌝ }
+{
     let bytes = held.bytes;
     Fault {
         kind: bytes[0],
@@ -154,13 +176,23 @@ pub fn fault_in(held: Held) -> Fault {
 
 fn put_fault(line: &mut [u8], at: usize, fault: Fault) -> usize {
     if fault.size == 0 {
-        let a = put_hex2(&mut *line, at, wide8(fault.kind));
+        let a = put_hex2(&mut *line, at, u64_of_u8(fault.kind));
         return put_text(line, a, b"h is no kind: expected 01h to 0Dh");
     }
     let a = put_text(&mut *line, at, b"the record of kind ");
-    let b = put_hex2(&mut *line, a, wide8(fault.kind));
-    let c = put_named(&mut *line, b, b"h is cut off: expected ", wide(fault.size));
-    put_named(line, c, b" bytes, and there are ", wide(fault.count))
+    let b = put_hex2(&mut *line, a, u64_of_u8(fault.kind));
+    let c = put_named(
+        &mut *line,
+        b,
+        b"h is cut off: expected ",
+        u64_of_usize(fault.size),
+    );
+    put_named(
+        line,
+        c,
+        b" bytes, and there are ",
+        u64_of_usize(fault.count),
+    )
 }
 
 // Says what is wrong at this byte of the file that argument i names.

@@ -1,4 +1,13 @@
 // A trace that is fed: what goes from one call of the bench to the next.
+ghost use mathlib.Core.Path.{_≡_};
+ghost use mathlib.Core.Bool.{cond};
+ghost use Prim.Native.Nat.{_-_, _*_, min};
+ghost use lib.Dec.{eqb};
+use bits::at_most;
+use bits::byte_at;
+use bits::u64_of_usize;
+use cli_io::counts::minus;
+use cli_io::counts::plus;
 use cli_io::trace_file::Fault;
 use decode::gathering::size_of;
 use feed::Fed;
@@ -8,10 +17,6 @@ use readiness::all_down;
 use records::Port;
 use records::blank_port;
 use set_up::SetUp;
-use text_line::numbers::at_most;
-use text_line::numbers::byte_at;
-use text_line::numbers::plus;
-use text_line::numbers::wide;
 
 // The bench, and how far the trace is: whether there is more to feed, the last call's number and counts, the byte that it stopped
 // at, and all bytes consumed and records run.
@@ -73,8 +78,8 @@ fn after(s: Session, fed: Fed, stopped_at: u8) -> Session {
         consumed: fed.consumed,
         written: fed.written,
         stopped_at: stopped_at,
-        offset: plus(s.offset, wide(fed.consumed)),
-        records: plus(s.records, wide(fed.written / 8)),
+        offset: plus(s.offset, u64_of_usize(fed.consumed)),
+        records: plus(s.records, u64_of_usize(fed.written / 8)),
         port: port,
         statuses: statuses,
     }
@@ -127,8 +132,12 @@ pub fn feed_part(
 
 // ---- What is wrong at the end
 
-fn minus(n: u64, by: u64) -> u64 {
-    if by <= n { n - by } else { 0 }
+// Where the record that is fed next, or carried, starts.
+pub fn record_offset(s: Session) -> u64
+    ensures { λ r. ⌜ r ≡ s .offset - s .port .«carried_len» ⌝ }
+{
+    let port = s.port;
+    minus(s.offset, u64_of_usize(port.carried_len))
 }
 
 // The byte that is no kind, or the record that is cut off, if there is either.
@@ -150,18 +159,21 @@ pub fn fault_of(s: Session) -> Fault {
 }
 
 // Where that is.
-pub fn fault_offset(s: Session) -> u64 {
-    let port = s.port;
+pub fn fault_offset(s: Session) -> u64
+    ensures { λ r. ⌜ r ≡ cond (eqb (s .number) 31) (s .offset) (s .offset - s .port .«carried_len») ⌝ }
+{
     if s.number == 31 {
         return s.offset;
     }
-    minus(s.offset, wide(port.carried_len))
+    record_offset(s)
 }
 
 // ---- Lending
 
 // The words that a card of so many slots has.
-pub fn words_of(slots: usize) -> usize {
+pub fn words_of(slots: usize) -> usize
+    ensures { λ r. ⌜ r ≡ 64 * min slots 32 ⌝ }
+{
     if slots <= 32 { 64 * slots } else { 2048 }
 }
 

@@ -1,6 +1,8 @@
 // Turn by turn: a piece of the trace is read, and fed whole, or record by record with a line for each.
 use crate::session::Session;
 use crate::session::feed_part;
+use crate::session::record_offset;
+use bits::at_most;
 use cli_io::files::complain;
 use cli_io::printing::Waiting;
 use cli_io::printing::end_line;
@@ -21,8 +23,6 @@ use describe_trace::trace_words::put_incomplete;
 use describe_trace::trace_words::put_run;
 use describe_trace::trace_words::put_unknown;
 use readiness::Setup;
-use text_line::numbers::at_most;
-use text_line::numbers::wide;
 
 // Where the trace comes from and where the answers go (-1: nowhere), whether only the end is printed, and whether standard error shows
 // how far it is.
@@ -146,17 +146,6 @@ fn prepared(t: Turn, input: &[u8], answers: &[u8], way: Way) -> Turn {
 }
 
 // ---- After a call
-
-fn minus(n: u64, by: usize) -> u64 {
-    let m = wide(by);
-    if m <= n { n - m } else { 0 }
-}
-
-// Where the record that is fed next, or carried, starts.
-fn record_offset(s: Session) -> u64 {
-    let port = s.port;
-    minus(s.offset, port.carried_len)
-}
 
 // The line of a record that was run, or of a byte that is no kind.
 fn put_call(

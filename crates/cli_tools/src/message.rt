@@ -1,4 +1,8 @@
 // `otsnebura message`: one readiness message of 16 bytes, read or written in hex.
+use bits::at_most;
+use bits::byte_at;
+use bits::u64_of_u8;
+use bits::u64_of_usize;
 use cli_arguments::arguments::arg_count;
 use cli_arguments::arguments::arg_is;
 use cli_arguments::arguments::bad_usage;
@@ -12,10 +16,6 @@ use cli_io::printing::nothing_waits;
 use describe_records::record_words::put_message;
 use messages::Message;
 use text_hex::Packed;
-use text_line::numbers::at_most;
-use text_line::numbers::byte_at;
-use text_line::numbers::wide;
-use text_line::numbers::wide8;
 use text_line::text::LINE;
 use text_line::text::put_byte;
 use text_line::text::put_bytes;
@@ -80,9 +80,9 @@ fn bytes_given(room: &mut [u8]) -> usize {
 
 // What isn't as a DRS or an FRS has it: the byte, and what was expected.
 fn put_byte_fault(line: &mut [u8], at: usize, bytes: &[u8], i: usize, expected: &[u8]) -> usize {
-    let a = put_named(&mut *line, at, b"byte ", wide(i));
+    let a = put_named(&mut *line, at, b"byte ", u64_of_usize(i));
     let b = put_text(&mut *line, a, b" is ");
-    let c = put_hex2(&mut *line, b, wide8(byte_at(bytes, i)));
+    let c = put_hex2(&mut *line, b, u64_of_u8(byte_at(bytes, i)));
     let d = put_text(&mut *line, c, b"h, expected ");
     put_text(line, d, expected)
 }
@@ -108,10 +108,10 @@ fn put_later_fault(line: &mut [u8], at: usize, bytes: &[u8]) -> usize {
 }
 
 // The first thing that keeps bytes from being a readiness message.
-fn put_fault(line: &mut [u8], at: usize, bytes: &[u8]) -> usize {
+fn put_message_fault(line: &mut [u8], at: usize, bytes: &[u8]) -> usize {
     let first = byte_at(bytes, 0);
     if bytes.len() != 16 {
-        let a = put_named(&mut *line, at, b"", wide(bytes.len()));
+        let a = put_named(&mut *line, at, b"", u64_of_usize(bytes.len()));
         return put_text(line, a, b" bytes, expected 16");
     }
     if (first != 0x34) & (first != 0x30) {
@@ -126,7 +126,7 @@ fn put_fault(line: &mut [u8], at: usize, bytes: &[u8]) -> usize {
 fn complain_message(bytes: &[u8]) -> Outcome {
     let mut line = [0u8; LINE];
     let a = put_text(&mut line, 0, b"no readiness message (19): ");
-    let b = put_fault(&mut line, a, bytes);
+    let b = put_message_fault(&mut line, a, bytes);
     complain_line(&line, b);
     Outcome::Refused
 }
@@ -174,19 +174,19 @@ fn id_of() -> u64 {
     let n = os::arg(3, &mut text);
     let packed = text_hex::pack(text_hex::start(), &text[..n], &mut bytes);
     if whole_count(packed, n) == 2 {
-        return wide8(byte_at(&bytes, 0)) * 256 + wide8(byte_at(&bytes, 1));
+        return u64_of_u8(byte_at(&bytes, 0)) * 256 + u64_of_u8(byte_at(&bytes, 1));
     }
     65536
 }
 
-// The reason in argument 4, one hex digit; 16 where it is none.
+// The reason in argument 4, one hex digit, or NO_DIGIT.
 fn reason_of() -> u8 {
     let mut digit = [0u8; 1];
     let n = os::arg(4, &mut digit);
     if n == 1 {
-        return text_hex::digit_of(byte_at(&digit, 0));
+        return text_fields::digit_of(true, byte_at(&digit, 0));
     }
-    16
+    text_fields::NO_DIGIT
 }
 
 fn print_bytes(bytes: &[u8]) -> Outcome {

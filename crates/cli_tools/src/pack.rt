@@ -1,5 +1,8 @@
 // `otsnebura pack HEX`: hex text with blanks and comments to raw bytes.
+use bits::at_most;
+use bits::u64_of_usize;
 use cli_arguments::outcome::Outcome;
+use cli_io::counts::plus;
 use cli_io::files::after_printing;
 use cli_io::files::complain_line;
 use cli_io::files::complain_read;
@@ -14,9 +17,6 @@ use cli_io::trace_file::read_piece;
 use text_hex::Packed;
 use text_hex::Packing;
 use text_hex::Within;
-use text_line::numbers::at_most;
-use text_line::numbers::plus;
-use text_line::numbers::wide;
 use text_line::text::LINE;
 use text_line::text::put_named;
 use text_line::text::put_text;
@@ -32,7 +32,7 @@ pub struct Work {
     pub offset: u64,
 }
 
-fn beginning() -> Work {
+fn nothing_packed() -> Work {
     Work {
         goes_on: true,
         packing: text_hex::start(),
@@ -65,13 +65,13 @@ fn pack_piece(fd: i32, work: Work, text: &mut [u8], room: &mut [u8]) -> Work {
         packing: packing,
         piece: piece,
         out: out,
-        offset: plus(work.offset, wide(piece.to)),
+        offset: plus(work.offset, u64_of_usize(piece.to)),
     }
 }
 
 // A proved loop has to end, and nothing says that a file does: it counts its turns down from a number that no run uses up.
 fn pack_all(fd: i32, text: &mut [u8], room: &mut [u8]) -> Work {
-    let mut work = beginning();
+    let mut work = nothing_packed();
     let mut turns = u64::MAX;
     while turns > 0 && work.goes_on {
         work = pack_piece(fd, work, &mut *text, &mut *room);
@@ -105,7 +105,8 @@ fn complain_text(i: usize, p: Packing) -> Outcome {
     Outcome::Refused
 }
 
-fn outcome_of(i: usize, p: Packing) -> Outcome {
+// How a text that was read to its end, or to a bad character, ends.
+fn outcome_of_text(i: usize, p: Packing) -> Outcome {
     if text_hex::is_whole(p) {
         return Outcome::Done;
     }
@@ -124,7 +125,7 @@ fn close_work(i: usize, work: Work) -> Outcome {
     if error != 0 {
         return Outcome::Unusable;
     }
-    outcome_of(i, packing)
+    outcome_of_text(i, packing)
 }
 
 // Packs a file; argument i names it.

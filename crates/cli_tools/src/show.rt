@@ -1,6 +1,8 @@
 // `otsnebura show TRACE`: the records in words, up to the first unknown kind or an incomplete end.
+use bits::u64_of_usize;
 use cli_arguments::outcome::Outcome;
 use cli_arguments::outcome::unless_error;
+use cli_io::counts::plus;
 use cli_io::files::after_printing;
 use cli_io::files::complain_read;
 use cli_io::printing::Waiting;
@@ -15,15 +17,12 @@ use cli_io::trace_file::fault_in;
 use cli_io::trace_file::is_full;
 use cli_io::trace_file::nothing_held;
 use cli_io::trace_file::nothing_read;
-use cli_io::trace_file::passed;
 use cli_io::trace_file::read_piece;
 use cli_io::trace_file::take;
 use describe_trace::trace_words::put_incomplete;
 use describe_trace::trace_words::put_shown;
 use describe_trace::trace_words::put_totals;
 use describe_trace::trace_words::put_unknown;
-use text_line::numbers::plus;
-use text_line::numbers::wide;
 
 // How far the reading is: bytes and records shown, what was read, and what waits to be written.
 pub struct Showing {
@@ -35,7 +34,7 @@ pub struct Showing {
     pub out: Waiting,
 }
 
-fn beginning() -> Showing {
+fn nothing_shown() -> Showing {
     Showing {
         goes_on: true,
         offset: 0,
@@ -47,7 +46,7 @@ fn beginning() -> Showing {
 }
 
 // The next piece is read; what waits is written before.
-fn read_on(fd: i32, s: Showing, input: &mut [u8], printed: &[u8]) -> Showing {
+fn read_next(fd: i32, s: Showing, input: &mut [u8], printed: &[u8]) -> Showing {
     let held = s.held;
     let waits = s.out;
     let out = flush_out(printed, waits);
@@ -95,7 +94,7 @@ fn show_full(s: Showing, held: Held, piece: Piece, printed: &mut [u8]) -> Showin
     }
     Showing {
         goes_on: out.error == 0,
-        offset: plus(s.offset, wide(held.size)),
+        offset: plus(s.offset, u64_of_usize(held.size)),
         records: plus(s.records, 1),
         piece: piece,
         held: nothing_held(),
@@ -129,7 +128,6 @@ fn show_next(s: Showing, input: &[u8], printed: &mut [u8]) -> Showing {
 fn show_rest(s: Showing, printed: &mut [u8]) -> Showing {
     let piece = s.piece;
     let held = s.held;
-    let waits = s.out;
     let mut end = s;
     end.goes_on = false;
     if (held.count > 0) & (piece.error == 0) {
@@ -148,12 +146,12 @@ fn show_turn(fd: i32, s: Showing, input: &mut [u8], printed: &mut [u8]) -> Showi
     if piece.ended {
         return show_rest(s, printed);
     }
-    read_on(fd, s, input, printed)
+    read_next(fd, s, input, printed)
 }
 
 // A proved loop has to end, and nothing says that a file does: it counts its turns down from a number that no run uses up.
 fn show_all(fd: i32, input: &mut [u8], printed: &mut [u8]) -> Showing {
-    let mut s = beginning();
+    let mut s = nothing_shown();
     let mut turns = u64::MAX;
     while turns > 0 && s.goes_on {
         s = show_turn(fd, s, &mut *input, &mut *printed);
@@ -177,7 +175,7 @@ fn close_showing(i: usize, s: Showing, printed: &mut [u8]) -> Outcome {
     let held = s.held;
     let error = print_totals(s, printed);
     if piece.error != 0 {
-        complain_read(i, plus(s.offset, wide(held.count)), piece.error);
+        complain_read(i, plus(s.offset, u64_of_usize(held.count)), piece.error);
         return Outcome::Unusable;
     }
     complain_fault(i, s.offset, fault_in(held));

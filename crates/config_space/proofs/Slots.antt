@@ -1,6 +1,6 @@
 -- What follows of the resets of the lent words: of one slot, and of all.
 use mathlib.Core.Path.{_≡_, refl, sym, ap, _∙_}
-use mathlib.Core.Bool.{Bool, true, false, _&&_, _||_, cond, true≢false, and-false}
+use mathlib.Core.Bool.{Bool, true, false, _&&_, _||_, cond, true≢false}
 use mathlib.Core.List.{List}
 use Prim.Native.Nat.{ℕ, zero, suc, _+_, _*_, _/_, _%_, _<_, _≤_}
 use native.Mathlib.Omega.{arith}
@@ -12,8 +12,8 @@ use Rattle.bits.proofs.Tests.{both-left}
 use Rattle.bits.proofs.Lists.{length-replaced, getD-replaced, replaced-none, replaced-other, replaced-ext, is-replaced}
 use Rattle.registers.specs.declared.Kind.{Kind}
 use Rattle.registers.specs.Words.{linkReset, flrReset}
-use Rattle.config_space.specs.Functions.{inSlot, inAnySlot, resetWhere, coldWord, linkResetSlot, flrResetSlot, linkResetAll, linkResetBelow, coldReset}
-use Rattle.registers.proofs.Laws.{link-reset-twice, flr-reset-twice}
+use Rattle.config_space.specs.Functions.{inSlot, inAnySlot, resetWhere, linkResetSlot, flrResetSlot, linkResetAll, coldReset}
+use Rattle.config_space.specs.inner.SlotAfterSlot.{linkResetBelow}
 
 -- A reset keeps how many words are lent.
 pub length-reset : (reset : ℕ → ℕ → ℕ → ℕ → ℕ) (live defaults : List ℕ) (chosen : ℕ → Bool) → length (resetWhere chosen reset live defaults) ≡ length live
@@ -33,27 +33,6 @@ module _ (chosen : ℕ → Bool) (reset : ℕ → ℕ → ℕ → ℕ → ℕ) (
   pub reset-other : (n : ℕ) → chosen n ≡ false → getD (resetWhere chosen reset live defaults) n 0 ≡ getD live n 0
   unfolding resetWhere
   reset-other n e = replaced-other _ _ live n (rw e refl)
-
-  -- so does a word that has no default
-  pub reset-no-default : (n : ℕ) → length defaults ≤ n → getD (resetWhere chosen reset live defaults) n 0 ≡ getD live n 0
-  unfolding resetWhere
-  reset-no-default n h = replaced-other _ _ live n (ap (λ (b : Bool). chosen n && b) (le-ltb n (length defaults) h) ∙ and-false (chosen n))
-
-  -- where a reset of a word twice is once, so it is of the words
-  pub reset-twice : ((s i x d : ℕ) → reset s i (reset s i x d) d ≡ reset s i x d)
-      → resetWhere chosen reset (resetWhere chosen reset live defaults) defaults ≡ resetWhere chosen reset live defaults
-  unfolding resetWhere
-  reset-twice twice =
-      let once = resetWhere chosen reset live defaults in
-      let long : length once ≡ length live = length-reset reset live defaults chosen in
-      let picks : ℕ → Bool = λ n. chosen n && ltb n (length defaults) in
-      let at : (n : ℕ) → n < length live → (b : Bool) → picks n ≡ b → getD once n 0 ≡ cond b (reset (n / 64) (n % 64) (getD once n 0) (getD defaults n 0)) (getD once n 0) =
-      λ n h. elim [
-        | true ↦ λ e. let v : getD once n 0 ≡ reset (n / 64) (n % 64) (getD live n 0) (getD defaults n 0) = getD-replaced _ _ live n h ∙ rw e refl in
-            v ∙ sym (ap (λ (x : ℕ). reset (n / 64) (n % 64) x (getD defaults n 0)) v ∙ twice (n / 64) (n % 64) (getD live n 0) (getD defaults n 0))
-        | false ↦ λ e. refl
-      ] in
-      sym (is-replaced picks _ once once refl (λ n h. at n (omega arith) (picks n) refl))
 
 -- a word that no choice takes stays, and so do all
 pub reset-none : (chosen : ℕ → Bool) (reset : ℕ → ℕ → ℕ → ℕ → ℕ) (live defaults : List ℕ) → ((n : ℕ) → chosen n ≡ false) → resetWhere chosen reset live defaults ≡ live
@@ -131,17 +110,6 @@ pub flr-reset-slot-others : (kind : Kind) (slot : ℕ) (live defaults : List ℕ
 unfolding flrResetSlot
 flr-reset-slot-others kind slot live defaults n e = reset-other (inSlot slot) (λ s. flrReset kind) live defaults n (ne-eqb (n / 64) slot e)
 
--- either of them twice is once
-pub link-reset-slot-twice : (kind : Kind) (slot : ℕ) (live defaults : List ℕ)
-    → linkResetSlot kind slot (linkResetSlot kind slot live defaults) defaults ≡ linkResetSlot kind slot live defaults
-unfolding linkResetSlot
-link-reset-slot-twice kind slot live defaults = reset-twice (inSlot slot) (λ s. linkReset kind) live defaults (λ s. link-reset-twice kind)
-
-pub flr-reset-slot-twice : (kind : Kind) (slot : ℕ) (live defaults : List ℕ)
-    → flrResetSlot kind slot (flrResetSlot kind slot live defaults) defaults ≡ flrResetSlot kind slot live defaults
-unfolding flrResetSlot
-flr-reset-slot-twice kind slot live defaults = reset-twice (inSlot slot) (λ s. flrReset kind) live defaults (λ s. flr-reset-twice kind)
-
 -- the lent words stay as many
 pub link-reset-slot-length : (kind : Kind) (slot : ℕ) (live defaults : List ℕ) → length (linkResetSlot kind slot live defaults) ≡ length live
 unfolding linkResetSlot
@@ -158,12 +126,6 @@ pub link-reset-all-word : (kindAt : ℕ → Kind) (live defaults : List ℕ) (n 
     → getD (linkResetAll kindAt live defaults) n 0 ≡ linkReset (kindAt (n / 64)) (n % 64) (getD live n 0) (getD defaults n 0)
 unfolding linkResetAll
 link-reset-all-word kindAt live defaults n h d = reset-own inAnySlot (λ s. linkReset (kindAt s)) live defaults n h d refl
-
--- a link reset twice is a link reset once
-pub link-reset-all-twice : (kindAt : ℕ → Kind) (live defaults : List ℕ)
-    → linkResetAll kindAt (linkResetAll kindAt live defaults) defaults ≡ linkResetAll kindAt live defaults
-unfolding linkResetAll
-link-reset-all-twice kindAt live defaults = reset-twice inAnySlot (λ s. linkReset (kindAt s)) live defaults (λ s. link-reset-twice (kindAt s))
 
 pub link-reset-all-length : (kindAt : ℕ → Kind) (live defaults : List ℕ) → length (linkResetAll kindAt live defaults) ≡ length live
 unfolding linkResetAll
@@ -222,7 +184,3 @@ cold-reset-defaults live defaults e =
 pub cold-reset-forgets : (live past defaults : List ℕ) → length live ≡ length defaults → length past ≡ length defaults
     → coldReset live defaults ≡ coldReset past defaults
 cold-reset-forgets live past defaults e d = cold-reset-defaults live defaults e ∙ sym (cold-reset-defaults past defaults d)
-
-pub cold-reset-length : (live defaults : List ℕ) → length (coldReset live defaults) ≡ length live
-unfolding coldReset
-cold-reset-length live defaults = length-reset coldWord live defaults inAnySlot

@@ -1,5 +1,5 @@
 -- What a reset does to the lent live registers, 64 words to a slot: a reset of one slot, and of all.
-use Prim.Native.Nat.{ℕ, zero, suc, _/_, _%_}
+use Prim.Native.Nat.{ℕ, _+_, _*_, _/_, _%_}
 use mathlib.Core.Bool.{Bool, true, _&&_}
 use mathlib.Core.List.{List}
 use lib.Dec.{eqb, ltb}
@@ -7,6 +7,10 @@ use lib.ListN.{length, getD}
 use Rattle.bits.specs.Lists.{replaced}
 use Rattle.registers.specs.declared.Kind.{Kind}
 use Rattle.registers.specs.Words.{linkReset, flrReset}
+
+-- where word i of a slot lies among the lent words
+abbrev pub wordPlace : (slot i : ℕ) → ℕ
+wordPlace slot i = slot * 64 + i
 
 -- lent word n is word n % 64 of slot n / 64
 abbrev pub inSlot : (slot n : ℕ) → Bool
@@ -36,11 +40,6 @@ flrResetSlot kind slot live defaults = resetWhere (inSlot slot) (λ s. flrReset 
 -- link down, in every slot: each word by the kind of its slot
 unfoldable pub linkResetAll : (kindAt : ℕ → Kind) (live defaults : List ℕ) → List ℕ
 linkResetAll kindAt live defaults = resetWhere inAnySlot (λ slot. linkReset (kindAt slot)) live defaults
-
--- the same in the slots below a number, one after the other
-unfoldable pub linkResetBelow : (kindAt : ℕ → Kind) (slots : ℕ) (live defaults : List ℕ) → List ℕ
-linkResetBelow kindAt zero live defaults = live
-linkResetBelow kindAt (suc slot) live defaults = linkResetSlot (kindAt slot) slot (linkResetBelow kindAt slot live defaults) defaults
 
 -- cold reset: live registers equal the defaults
 unfoldable pub coldReset : (live defaults : List ℕ) → List ℕ

@@ -12,13 +12,13 @@ use Rattle.bits.proofs.Bits.{bit-none, is-arg, is-the}
 use Rattle.bits.proofs.Tests.{all, all-at, is-false, is-true}
 use Rattle.registers.specs.declared.Kind.{Kind}
 use Rattle.registers.specs.Rows.{rowOf, endpointRow}
-use Rattle.registers.specs.Words.{pmcsr, deviceControl, resetBit, linkReset, flrReset, linkMask, flrMask, withDefaults}
+use Rattle.registers.specs.Words.{pmcsr, deviceControl, resetBit, linkReset, flrReset}
+use Rattle.registers.specs.inner.Masks.{linkMask, flrMask, withDefaults}
 use Rattle.registers.proofs.Rules.{every-kind, link-by-mask, flr-by-mask}
 use Rattle.config_words.specs.declared.ResetMasks.{ResetMasks}
-use Rattle.config_words.specs.declared.LinkMasks.{LinkMasks}
 use Rattle.config_space.specs.Functions.{resetWhere}
 use Rattle.config_space.proofs.Slots.{same-reset}
-use Rattle.config_words.specs.inner.Resetting.{changing, changingBetween, maskIn, byMask, linkMasks, flrMasks, linkMasksOf}
+use Rattle.config_words.specs.inner.Resetting.{changing, changingBetween, maskIn, byMask, linkMasks, flrMasks}
 use Rattle.config_words.proofs.Spans.{not-both, none-of, skip, next, two-resets, only-of}
 
 -- ---- which words
@@ -118,7 +118,3 @@ module _ (kind : Kind) (chosen : ℕ → Bool) (live defaults : List ℕ) where
   flr-by-masks =
       same-reset chosen _ _ live defaults
       (λ n x d e. ap (λ (m : ℕ). withDefaults m x d) (eqb→eq _ _ (all-at 64 (flrRight kind) (flr-tested kind) (n % 64) (omega arith))) ∙ flr-by-mask kind (n % 64) x d)
-
--- masks that are those of a kind are those of the kind that they name
-pub own-masks : (m : LinkMasks) (kind : Kind) → m ≡ linkMasksOf kind → m ≡ linkMasksOf (m .kind)
-own-masks m kind e = e ∙ ap (λ (l : LinkMasks). linkMasksOf (l .kind)) (sym e)

@@ -3,8 +3,8 @@ ghost use mathlib.Core.Path.{_≡_};
 ghost use Prim.Native.Nat.{_+_, _*_, _<_, _≤_, min};
 ghost use lib.ListN.{length, getD, set};
 ghost use Rattle.registers.specs.Rows.{masks};
-ghost use Rattle.registers.specs.Words.{withDefaults};
-ghost use Rattle.config_space.specs.Functions.{resetWhere, inSlot, linkResetSlot, flrResetSlot, coldReset};
+ghost use Rattle.registers.specs.inner.Masks.{withDefaults};
+ghost use Rattle.config_space.specs.Functions.{wordPlace, resetWhere, inSlot, linkResetSlot, flrResetSlot, coldReset};
 ghost use Rattle.config_words.specs.inner.Resetting.{between, maskIn, byMask, linkMasks, flrMasks, linkMasksOf, changingBetween};
 use bits::at_most;
 use registers::DEVICE_CONTROL;
@@ -121,9 +121,9 @@ fn reset_words(reset: ResetMasks, from: usize, to: usize, live: &mut [u32], defa
 
 // The reset of word i of a slot, of which the bits of a mask take their defaults.
 fn reset_at(mask: u32, slot: usize, i: usize, live: &mut [u32], defaults: &[u32])
-    requires { ⌜ (slot * 64 + i < length (now live)) × (slot * 64 + i < length (now defaults)) ⌝ }
+    requires { ⌜ (wordPlace slot i < length (now live)) × (wordPlace slot i < length (now defaults)) ⌝ }
     ensures { λ _. ⌜ now (live .exit)
-        ≡ set (now (live .entry)) (slot * 64 + i) (withDefaults mask (getD (now (live .entry)) (slot * 64 + i) 0) (getD (now (defaults .entry)) (slot * 64 + i) 0)) ⌝ }
+        ≡ set (now (live .entry)) (wordPlace slot i) (withDefaults mask (getD (now (live .entry)) (wordPlace slot i) 0) (getD (now (defaults .entry)) (wordPlace slot i) 0)) ⌝ }
 {
     let n = slot * 64 + i;
     live[n] = registers::with_defaults(mask, live[n], defaults[n]);
@@ -167,7 +167,7 @@ fn reset_changing(reset: ResetMasks, slot: usize, live: &mut [u32], defaults: &[
 
 // Where word i of a slot stands among `words` lent words; `words` if it isn't among them.
 fn word_index(slot: usize, i: usize, words: usize) -> usize
-    ensures { λ r. ⌜ r ≡ min (slot * 64 + i) words ⌝ }
+    ensures { λ r. ⌜ r ≡ min (wordPlace slot i) words ⌝ }
 {
     if words / 64 < slot {
         return words;

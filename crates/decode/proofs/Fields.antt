@@ -15,7 +15,8 @@ use Rattle.records.specs.declared.Request.{Request}
 use Rattle.messages.specs.Messages.{readMessage}
 use Rattle.records.specs.declared.Record.{Record}
 use Rattle.records.specs.declared.Record.the-variants.{Advance, Read, Write, Message, LinkUp, LinkDown, ColdReset, ReadQueue, RemoveOldest, ClearBits, Control, HardwareSet, ReadBits, NoKind}
-use Rattle.records.specs.Decode.{byte, four, requestIn, decode}
+use Rattle.bits.specs.Bytes.{byteAt}
+use Rattle.records.specs.Decode.{four, requestIn, decode}
 
 -- ---- a kind that there is not has no size
 past : (k m : ℕ) → m ≤ k → (k ≡ m → ⊥) → m + 1 ≤ k
@@ -46,59 +47,59 @@ stored d at s (suc j) h e =
 
 -- ---- a record by its byte of kind
 module _ (r : List ℕ) where
-  pub decode-1 : byte r 0 ≡ 1 → decode r ≡ Advance (record { 0 = four r 1 })
+  pub decode-1 : byteAt r 0 ≡ 1 → decode r ≡ Advance (record { 0 = four r 1 })
   unfolding decode
   decode-1 e = rw e
 
-  pub decode-2 : byte r 0 ≡ 2 → decode r ≡ Read (requestIn r)
+  pub decode-2 : byteAt r 0 ≡ 2 → decode r ≡ Read (requestIn r)
   unfolding decode
   decode-2 e = rw e
 
-  pub decode-3 : byte r 0 ≡ 3 → decode r ≡ Write (requestIn r) (four r 4)
+  pub decode-3 : byteAt r 0 ≡ 3 → decode r ≡ Write (requestIn r) (four r 4)
   unfolding decode
   decode-3 e = rw e
 
-  pub decode-4 : byte r 0 ≡ 4 → decode r ≡ Message (readMessage (take 16 (drop 1 r)))
+  pub decode-4 : byteAt r 0 ≡ 4 → decode r ≡ Message (readMessage (take 16 (drop 1 r)))
   unfolding decode
   decode-4 e = rw e
 
-  pub decode-5 : byte r 0 ≡ 5 → decode r ≡ LinkUp
+  pub decode-5 : byteAt r 0 ≡ 5 → decode r ≡ LinkUp
   unfolding decode
   decode-5 e = rw e
 
-  pub decode-6 : byte r 0 ≡ 6 → decode r ≡ LinkDown
+  pub decode-6 : byteAt r 0 ≡ 6 → decode r ≡ LinkDown
   unfolding decode
   decode-6 e = rw e
 
-  pub decode-7 : byte r 0 ≡ 7 → decode r ≡ ColdReset
+  pub decode-7 : byteAt r 0 ≡ 7 → decode r ≡ ColdReset
   unfolding decode
   decode-7 e = rw e
 
-  pub decode-8 : byte r 0 ≡ 8 → decode r ≡ ReadQueue
+  pub decode-8 : byteAt r 0 ≡ 8 → decode r ≡ ReadQueue
   unfolding decode
   decode-8 e = rw e
 
-  pub decode-9 : byte r 0 ≡ 9 → decode r ≡ RemoveOldest
+  pub decode-9 : byteAt r 0 ≡ 9 → decode r ≡ RemoveOldest
   unfolding decode
   decode-9 e = rw e
 
-  pub decode-10 : byte r 0 ≡ 10 → decode r ≡ ClearBits (byte r 1)
+  pub decode-10 : byteAt r 0 ≡ 10 → decode r ≡ ClearBits (byteAt r 1)
   unfolding decode
   decode-10 e = rw e
 
-  pub decode-11 : byte r 0 ≡ 11 → decode r ≡ Control (byte r 1)
+  pub decode-11 : byteAt r 0 ≡ 11 → decode r ≡ Control (byteAt r 1)
   unfolding decode
   decode-11 e = rw e
 
-  pub decode-12 : byte r 0 ≡ 12 → decode r ≡ HardwareSet (byte r 1) (byte r 2) (four r 3)
+  pub decode-12 : byteAt r 0 ≡ 12 → decode r ≡ HardwareSet (byteAt r 1) (byteAt r 2) (four r 3)
   unfolding decode
   decode-12 e = rw e
 
-  pub decode-13 : byte r 0 ≡ 13 → decode r ≡ ReadBits
+  pub decode-13 : byteAt r 0 ≡ 13 → decode r ≡ ReadBits
   unfolding decode
   decode-13 e = rw e
 
-  pub decode-none : (k : ℕ) → byte r 0 ≡ k → (k ≡ 1 → ⊥) → (k ≡ 2 → ⊥) → (k ≡ 3 → ⊥) → (k ≡ 4 → ⊥) → (k ≡ 5 → ⊥) → (k ≡ 6 → ⊥) → (k ≡ 7 → ⊥) → (k ≡ 8 → ⊥) → (k ≡ 9 → ⊥) → (k ≡ 10 → ⊥) → (k ≡ 11 → ⊥) → (k ≡ 12 → ⊥) → (k ≡ 13 → ⊥) → NoKind ≡ decode r
+  pub decode-none : (k : ℕ) → byteAt r 0 ≡ k → (k ≡ 1 → ⊥) → (k ≡ 2 → ⊥) → (k ≡ 3 → ⊥) → (k ≡ 4 → ⊥) → (k ≡ 5 → ⊥) → (k ≡ 6 → ⊥) → (k ≡ 7 → ⊥) → (k ≡ 8 → ⊥) → (k ≡ 9 → ⊥) → (k ≡ 10 → ⊥) → (k ≡ 11 → ⊥) → (k ≡ 12 → ⊥) → (k ≡ 13 → ⊥) → NoKind ≡ decode r
   unfolding decode
   decode-none k e n1 n2 n3 n4 n5 n6 n7 n8 n9 n10 n11 n12 n13 = rw e (simp (ne-eqb k 1 n1, ne-eqb k 2 n2, ne-eqb k 3 n3, ne-eqb k 4 n4, ne-eqb k 5 n5, ne-eqb k 6 n6, ne-eqb k 7 n7, ne-eqb k 8 n8, ne-eqb k 9 n9, ne-eqb k 10 n10, ne-eqb k 11 n11, ne-eqb k 12 n12, ne-eqb k 13 n13))
 
@@ -133,10 +134,10 @@ size-12 = refl
 
 -- ---- the record at `at` of l, field by field
 module _ (l : List ℕ) (at : ℕ) where
-  pub kind-at : byte (drop at l) 0 ≡ getD l at 0
+  pub kind-at : byteAt (drop at l) 0 ≡ getD l at 0
   kind-at = let z : at + 0 ≡ at = omega arith in getD-drop at l 0 0 ∙ ap (λ (i : ℕ). getD l i 0) z
 
-  byte-at : (j : ℕ) → getD l (at + j) 0 ≡ byte (drop at l) j
+  byte-at : (j : ℕ) → getD l (at + j) 0 ≡ byteAt (drop at l) j
   byte-at j = sym (getD-drop at l j 0)
 
   four-at : (j : ℕ) → four l (at + j) ≡ four (drop at l) j

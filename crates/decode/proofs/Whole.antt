@@ -5,12 +5,12 @@ use mathlib.Core.List.{List, [], _∷_}
 use native.Mathlib.Omega.{arith}
 use lib.ListN.{length, getD, take, drop, List·getD-append}
 use lib.Seq.{getD-take, length-take-le, take-append-le, take-take}
-use Rattle.bits.proofs.Tests.{split}
 use Rattle.trace.specs.Format.{recordSizes, sizeOf, pad, longest}
 use Rattle.messages.specs.Messages.{readMessage}
 use Rattle.records.specs.declared.Record.{Record}
 use Rattle.records.specs.declared.Record.the-variants.{Advance, Read, Write, Message, ClearBits, Control, HardwareSet}
-use Rattle.records.specs.Decode.{byte, four, requestIn, decode}
+use Rattle.bits.specs.Bytes.{byteAt}
+use Rattle.records.specs.Decode.{four, requestIn, decode}
 use Rattle.decode.proofs.Fields.{decode-1, decode-2, decode-3, decode-4, decode-5, decode-6, decode-7, decode-8, decode-9, decode-10, decode-11, decode-12, decode-13}
 
 -- ---- the first n bytes of l, with zeros after them
@@ -18,7 +18,7 @@ abbrev front : List ℕ → ℕ → List ℕ
 front l n = pad longest (take n l)
 
 module _ (l : List ℕ) (n : ℕ) (h : n ≤ length l) where
-  same-byte : (j : ℕ) → j < n → byte l j ≡ byte (front l n) j
+  same-byte : (j : ℕ) → j < n → byteAt l j ≡ byteAt (front l n) j
   same-byte j b =
       let m : length (take n l) ≡ n = length-take-le n l h in
       sym (List·getD-append (take n l) _ 0 j (omega arith) ∙ getD-take n l j 0 b)
@@ -34,7 +34,7 @@ module _ (l : List ℕ) (n : ℕ) (h : n ≤ length l) where
   same-request : 4 ≤ n → requestIn l ≡ requestIn (front l n)
   same-request b = λ i. record { slot = same-byte 1 (omega arith) i; word = same-byte 2 (omega arith) i; enables = same-byte 3 (omega arith) i }
 
-  same-kind : (k : ℕ) → 0 < n → byte l 0 ≡ k → byte (front l n) 0 ≡ k
+  same-kind : (k : ℕ) → 0 < n → byteAt l 0 ≡ k → byteAt (front l n) 0 ≡ k
   same-kind k b e = sym (same-byte 0 b) ∙ e
 
 -- the bytes of a message
@@ -46,7 +46,7 @@ same-message (x ∷ xs) h =
 
 -- ---- kind by kind
 abbrev Alone : ℕ → Type 0
-Alone k = (l : List ℕ) → byte l 0 ≡ k → sizeOf k ≤ length l → decode l ≡ decode (front l (sizeOf k))
+Alone k = (l : List ℕ) → byteAt l 0 ≡ k → sizeOf k ≤ length l → decode l ≡ decode (front l (sizeOf k))
 
 alone-1 : Alone 1
 unfolding sizeOf

@@ -1,6 +1,6 @@
 // A record from its bytes, read where they stand: one byte of kind, then a body; numbers low byte first.
 ghost use mathlib.Core.Path.{_≡_};
-ghost use Prim.Native.Nat.{ℕ, _+_, _≤_, _<_};
+ghost use Prim.Native.Nat.{_+_, _≤_, _<_};
 ghost use lib.ListN.{length, getD, take, drop};
 ghost use Rattle.trace.specs.Format.{sizeOf};
 ghost use Rattle.messages.specs.Messages.{readMessage};
@@ -12,8 +12,8 @@ use messages::Message;
 use records::Record;
 use records::Request;
 
-// Four bytes from byte j on.
-fn four_at(input: &[u8], j: usize) -> u32
+// Four bytes from byte j on, all of which are there.
+fn four_in(input: &[u8], j: usize) -> u32
     requires { ⌜ j + 4 ≤ length (now input) ⌝ }
     ensures { λ r. ⌜ r ≡ four (now (input .entry)) j ⌝ }
 {
@@ -50,9 +50,9 @@ pub fn decode_at(input: &[u8], at: usize) -> Record
 {
     let kind = input[at];
     match kind {
-        0x01 => Record::Advance(times::nanos_of(u64_of_u32(four_at(input, at + 1)))),
+        0x01 => Record::Advance(times::nanos_of(u64_of_u32(four_in(input, at + 1)))),
         0x02 => Record::Read(request_at(input, at)),
-        0x03 => Record::Write(request_at(input, at), four_at(input, at + 4)),
+        0x03 => Record::Write(request_at(input, at), four_in(input, at + 4)),
         0x04 => Record::Message(message_at(input, at)),
         0x05 => Record::LinkUp,
         0x06 => Record::LinkDown,
@@ -64,7 +64,7 @@ pub fn decode_at(input: &[u8], at: usize) -> Record
         0x0C => Record::HardwareSet(
             usize_of_u8(input[at + 1]),
             usize_of_u8(input[at + 2]),
-            four_at(input, at + 3),
+            four_in(input, at + 3),
         ),
         0x0D => Record::ReadBits,
         _ => Record::NoKind,

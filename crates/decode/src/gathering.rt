@@ -5,7 +5,7 @@ ghost use Prim.Native.Nat.{_+_, _≤_, _<_};
 ghost use lib.ListN.{length, getD, take, drop};
 ghost use lib.Seq.{paste};
 ghost use Rattle.trace.specs.Format.{sizeOf, pad, longest, next};
-ghost use Rattle.trace.specs.Feed.{wholeSize};
+ghost use Rattle.trace.specs.inner.Gathered.{wholeSize};
 ghost use Rattle.records.specs.Decode.{decode};
 ghost use Rattle.decode.specs.inner.Gathering.{endingOf};
 use crate::Ending;
@@ -36,7 +36,7 @@ pub fn size_of(kind: u8) -> usize
 }
 
 // Byte j of a call's trace: what is carried, and then the input.
-fn byte_at(carried: &[u8], len: usize, input: &[u8], j: usize) -> u8
+fn trace_byte(carried: &[u8], len: usize, input: &[u8], j: usize) -> u8
     requires { ⌜ (len ≤ length (now carried)) × (j < len + length (now input)) ⌝ }
     ensures { λ r. ⌜ r ≡ getD (take len (now (carried .entry)) ++ now (input .entry)) j 0 ⌝ }
 {
@@ -52,7 +52,7 @@ pub fn whole_size(carried: &[u8], len: usize, input: &[u8], space: usize) -> usi
     if there == 0 {
         return 0;
     }
-    let size = size_of(byte_at(carried, len, input, 0));
+    let size = size_of(trace_byte(carried, len, input, 0));
     if there < size {
         return 0;
     }
@@ -109,7 +109,7 @@ pub fn ending(carried: &[u8], len: usize, input: &[u8]) -> Ending
             count: 0,
         };
     }
-    let size = size_of(byte_at(carried, len, input, 0));
+    let size = size_of(trace_byte(carried, len, input, 0));
     if size == 0 {
         return Ending {
             number: 31,
@@ -136,7 +136,7 @@ pub fn first_bytes(carried: &[u8], len: usize, input: &[u8], n: usize) -> [u8; 1
     let mut bytes = [0u8; 17];
     let mut j = 0;
     while j < n {
-        bytes[j] = byte_at(carried, len, input, j);
+        bytes[j] = trace_byte(carried, len, input, j);
         j += 1;
     }
     bytes
@@ -150,14 +150,14 @@ pub fn carried_bytes(carried: &[u8], len: usize, input: &[u8], n: usize) -> [u8;
     let mut bytes = [0u8; 16];
     let mut j = 0;
     while j < n {
-        bytes[j] = byte_at(carried, len, input, j);
+        bytes[j] = trace_byte(carried, len, input, j);
         j += 1;
     }
     bytes
 }
 
 // The 8 bytes of an answer go to `answers`, from `at` on.
-pub fn put(answers: &mut [u8], at: usize, answer: [u8; 8])
+pub fn put_answer(answers: &mut [u8], at: usize, answer: [u8; 8])
     requires { ⌜ at + 8 ≤ length (now answers) ⌝ }
     ensures { λ _. ⌜ now (answers .exit) ≡ paste (now (answers .entry)) at answer 8 ⌝ }
 {

@@ -1,9 +1,11 @@
 pub mod Cases
 pub mod Demand3
+pub mod Before
 pub mod Refusals
 pub mod SettingUp
 pub mod Good
 pub mod Numbers
 pub mod Prepared
+pub mod GivenForNo
 pub mod StateKept
 pub mod TwoRecords

@@ -1,8 +1,8 @@
--- NUMBERS GIVEN FOR NO, 1 to 5 (01): what each says of the set-up and of all that is lent, and the first that applies.
-use Prim.Native.Nat.{ℕ, zero, suc, _*_, _≤_, _<_}
-use mathlib.Core.Path.{_≡_, refl, ap, sym, subst, _∙_}
-use mathlib.Core.Bool.{Bool, true, false, not, _&&_, _||_, true≢false, and-false}
-use mathlib.Core.List.{List}
+-- Refusals 1 to 5: each test holds exactly if what it is about holds, and the first of 1 to 4 that applies.
+use Prim.Native.Nat.{ℕ, _*_, _<_}
+use mathlib.Core.Path.{_≡_, refl, ap, sym, _∙_}
+use mathlib.Core.Bool.{Bool, true, false, not, _&&_, _||_, cond, true≢false, and-false}
+use mathlib.Core.List.{List, [], _∷_}
 use native.Mathlib.Omega.{arith}
 use lib.ListN.{length}
 use lib.Dec.{T, eqb, leb, ltb}
@@ -11,41 +11,30 @@ use Rattle.bits.specs.Bits.{bit, word}
 use Rattle.bits.proofs.Bits.{bit-word, bit-none, word-none}
 use Rattle.bits.specs.Every.{every}
 use Rattle.bits.proofs.Every.{every-at, every-of}
-use Rattle.bits.proofs.Tests.{all, all-at, both, both-left, both-right, untrue}
+use Rattle.bits.proofs.Tests.{all, all-at, both, both-left, both-right, untrue, split, not-both}
 use Rattle.times.specs.Codes.{allowed}
-use Rattle.registers.specs.declared.Kind.{Kind}
-use Rattle.registers.specs.declared.Kind.the-variants.{Endpoint}
 use Rattle.registers.specs.Rows.{pmcsr, deviceControl, checkedWords, defaultMustBeZero, defaultAllowed}
 use Rattle.readiness.specs.declared.Slot.{Slot}
 use Rattle.readiness.specs.declared.Setup.{Setup}
 use Rattle.readiness.specs.Status.{entryOf}
-use Rattle.trace.specs.Format.{begun, next, incomplete}
+use Rattle.trace.specs.Format.{begun}
 use Rattle.trace.proofs.Laws.{begun-is, incomplete-begun}
-use Rattle.trace.proofs.Refusing.{refusal-set-up, refusal-unsound, refusal-none}
-use Rattle.records.specs.State.{slotKind}
+use Rattle.records.specs.State.{kindOfEntry, slotKind}
 use Rattle.records.specs.Requests.{wordAt}
-use Rattle.records.specs.Sound.{sound, Sound}
+use Rattle.records.specs.Sound.{sound}
 use Rattle.records.proofs.SoundFacts.{sound-facts, facts-sound}
+use Rattle.records.proofs.Routes.{Reason, because}
 use Rattle.demand3.specs.Held.{Held, stateOf, carriedOf}
 use Rattle.demand3.specs.Refusals.{lengthsFit, queueFits, codesAllowed, allCodesAllowed, wordsAllowed, allDefaultsAllowed, setUpRefusal, soundCarried, soundHeld}
-use Rattle.demand3.specs.Feeding.{bench}
-use Rattle.demand3.specs.Claim.{refusalOf}
-use Rattle.demand3.proofs.Refusals.{Fits, fits-of, words-checked, refused-1, refused-2, refused-3, refused-4, refused-not}
-
--- ---- a number with its reason
-record Reason (Why : ℕ → Type 0) : Type 0 where
-  number : ℕ
-  why : Why number
-
-reason : {Why : ℕ → Type 0} (n : ℕ) → Why n → Reason Why
-reason n w = record { number = n; why = w }
+use Rattle.demand3.specs.GivenForNo.{Fits, QueueFits, CodesFit, AllCodesFit, DefaultsFit, AllDefaultsFit, HeldSound, LengthsFit, SetUpFacts}
+use Rattle.demand3.proofs.Refusals.{fits-of, words-checked, refused-1, refused-2, refused-3, refused-4, refused-not}
 
 -- ---- a test that says whether a fact holds
 pub record Says (test : Bool) (fact : Type 0) : Type 0 where
   pub holds : test ≡ true → fact
   pub tested : fact → test ≡ true
 
-fails : {test : Bool} {fact : Type 0} → Says test fact → (fact → ⊥) → test ≡ false
+pub fails : {test : Bool} {fact : Type 0} → Says test fact → (fact → ⊥) → test ≡ false
 fails {test} s f = untrue test (λ e. f (s .holds e))
 
 every-says : (n : ℕ) (p : ℕ → Bool) (P : ℕ → Type 0) → ((i : ℕ) → Says (p i) (P i)) → Says (every n p) ((i : ℕ) → i < n → P i)
@@ -64,10 +53,6 @@ lengths-say slots statuses live defaults =
     }
 
 -- ---- 2: queue length 1 to 4,095
-pub record QueueFits (cells : ℕ) : Type 0 where
-  pub some : 0 < cells
-  pub most : cells ≤ 4095
-
 pub queue-says : (cells : ℕ) → Says (queueFits cells) (QueueFits cells)
 unfolding queueFits
 queue-says cells =
@@ -77,12 +62,6 @@ queue-says cells =
     }
 
 -- ---- 3: no code above A1Eh
-pub record CodesFit (e : Slot) : Type 0 where
-  pub reset : e .reset .0 ≤ 0xA1E
-  pub dlUp : e .«dl_up» .0 ≤ 0xA1E
-  pub flr : e .flr .0 ≤ 0xA1E
-  pub d3hot : e .d3hot .0 ≤ 0xA1E
-
 pub codes-say : (e : Slot) → Says (codesAllowed e) (CodesFit e)
 unfolding codesAllowed allowed
 codes-say e =
@@ -105,20 +84,11 @@ codes-say e =
           (le-leb (e .d3hot .0) 0xA1E (f .d3hot));
     }
 
-abbrev pub AllCodesFit : Setup → Type 0
-AllCodesFit setup = (i : ℕ) → i < setup .slots → CodesFit (entryOf setup i)
-
 pub all-codes-say : (setup : Setup) → Says (allCodesAllowed setup) (AllCodesFit setup)
 unfolding allCodesAllowed
 all-codes-say setup = every-says (setup .slots) (λ i. codesAllowed (entryOf setup i)) (λ i. CodesFit (entryOf setup i)) (λ i. codes-say (entryOf setup i))
 
 -- ---- 4: no default with bit 15 or 21 of 78h or bits 1:0 of 44h set
-pub record DefaultsFit (defaults : List ℕ) (slot : ℕ) : Type 0 where
-  pub initiateFlr : bit (wordAt defaults slot deviceControl) 15 ≡ false
-  pub transactionsPending : bit (wordAt defaults slot deviceControl) 21 ≡ false
-  pub powerState0 : bit (wordAt defaults slot pmcsr) 0 ≡ false
-  pub powerState1 : bit (wordAt defaults slot pmcsr) 1 ≡ false
-
 -- two bits of a word are 0 where the word has none of a mask of these two
 module _ (d mask i j : ℕ) where
   abbrev masked : ℕ → Bool
@@ -147,14 +117,15 @@ module _ (d mask i j : ℕ) where
       by true f = absurd (true≢false (sym e ∙ f))
       by false f = refl
 
-words-say : (kind : Kind) (defaults : List ℕ) (slot : ℕ) → Says (wordsAllowed kind defaults slot (checkedWords kind)) (DefaultsFit defaults slot)
-unfolding defaultAllowed defaultMustBeZero bit
-words-say Endpoint defaults slot =
+words-say : (setup : Setup) (defaults : List ℕ) (slot : ℕ) → Says (wordsAllowed (slotKind setup slot) defaults slot (checkedWords (slotKind setup slot))) (DefaultsFit defaults slot)
+unfolding kindOfEntry defaultAllowed defaultMustBeZero bit
+words-say setup defaults slot =
+    let kind = slotKind setup slot in
     let p = wordAt defaults slot pmcsr in
     let d = wordAt defaults slot deviceControl in
-    let a = defaultAllowed Endpoint pmcsr p in
-    let b = defaultAllowed Endpoint deviceControl d in
-    let c = words-checked Endpoint defaults slot (checkedWords Endpoint) refl in
+    let a = defaultAllowed kind pmcsr p in
+    let b = defaultAllowed kind deviceControl d in
+    let c = words-checked kind defaults slot (checkedWords kind) refl in
     record {
       holds = λ e.
           let t : (a && (b && true)) ≡ true = sym c ∙ e in
@@ -172,20 +143,12 @@ words-say Endpoint defaults slot =
           (both b true (eq-eqb (word (masked d 0x208000 15 21)) 0 (none-set d 0x208000 15 21 (f .initiateFlr) (f .transactionsPending) tt)) refl);
     }
 
-abbrev pub AllDefaultsFit : Setup → List ℕ → Type 0
-AllDefaultsFit setup defaults = (i : ℕ) → i < setup .slots → DefaultsFit defaults i
-
 pub all-defaults-say : (setup : Setup) (defaults : List ℕ) → Says (allDefaultsAllowed setup defaults) (AllDefaultsFit setup defaults)
 unfolding allDefaultsAllowed
 all-defaults-say setup defaults =
-    every-says (setup .slots) (λ i. wordsAllowed (slotKind setup i) defaults i (checkedWords (slotKind setup i))) (DefaultsFit defaults) (λ i. words-say (slotKind setup i) defaults i)
+    every-says (setup .slots) (λ i. wordsAllowed (slotKind setup i) defaults i (checkedWords (slotKind setup i))) (DefaultsFit defaults) (words-say setup defaults)
 
 -- ---- 5: the port and the statuses are sound, and the carried bytes, at most 16, are the start of one incomplete record, or none
-pub record HeldSound (setup : Setup) (h : Held) : Type 0 where
-  pub state : Sound setup (stateOf h)
-  pub count : h .port .«carried_len» ≤ 16
-  pub carried : next (carriedOf (h .port)) ≡ incomplete
-
 pub sound-says : (setup : Setup) (h : Held) → Says (soundHeld setup h) (HeldSound setup h)
 unfolding soundHeld soundCarried
 sound-says setup h =
@@ -205,98 +168,89 @@ sound-says setup h =
           (facts-sound setup (stateOf h) (f .state));
     }
 
--- ---- the first that applies
+-- ---- the first of 1 to 4 that applies
+pub denies : {test : Bool} {fact : Type 0} → Says test fact → test ≡ false → fact → ⊥
+denies s e p = not-both (s .tested p) e
+
 module _ (setup : Setup) (defaults : List ℕ) (h : Held) where
-  abbrev pub LengthsFit : Type 0
-  LengthsFit = Fits (setup .slots) (length (h .statuses)) (length (h .live)) (length defaults)
+  abbrev cells : ℕ
+  cells = length (h .cells)
 
-  -- WHY A SET-UP IS REFUSED, or not
-  pub data WhySetUp : ℕ → Type 0 where
-    fits : LengthsFit → QueueFits (length (h .cells)) → AllCodesFit setup → AllDefaultsFit setup defaults → WhySetUp 0
-    lengths : (LengthsFit → ⊥) → WhySetUp 1
-    queue : LengthsFit → (QueueFits (length (h .cells)) → ⊥) → WhySetUp 2
-    codes : LengthsFit → QueueFits (length (h .cells)) → (AllCodesFit setup → ⊥) → WhySetUp 3
-    defaultBits : LengthsFit → QueueFits (length (h .cells)) → AllCodesFit setup → (AllDefaultsFit setup defaults → ⊥) → WhySetUp 4
+  abbrev Not2 : Type 0
+  Not2 = LengthsFit setup defaults h × (QueueFits cells → ⊥)
 
-  -- WHY A CALL IS REFUSED with 1 to 5, or not
-  pub data Why : ℕ → Type 0 where
-    accepted : WhySetUp 0 → HeldSound setup h → Why 0
-    notSetUp : (n : ℕ) → WhySetUp (suc n) → Why (suc n)
-    unsound : WhySetUp 0 → (HeldSound setup h → ⊥) → Why 5
+  abbrev Not3 : Type 0
+  Not3 = LengthsFit setup defaults h × QueueFits cells × (AllCodesFit setup → ⊥)
 
-  lengthsSay : Says (lengthsFit (setup .slots) (length (h .statuses)) (length (h .live)) (length defaults)) LengthsFit
+  abbrev Not4 : Type 0
+  Not4 = LengthsFit setup defaults h × QueueFits cells × AllCodesFit setup × (AllDefaultsFit setup defaults → ⊥)
+
+  lengthsSay : Says (lengthsFit (setup .slots) (length (h .statuses)) (length (h .live)) (length defaults)) (LengthsFit setup defaults h)
   lengthsSay = lengths-say (setup .slots) (length (h .statuses)) (length (h .live)) (length defaults)
 
-  queueSays : Says (queueFits (length (h .cells))) (QueueFits (length (h .cells)))
-  queueSays = queue-says (length (h .cells))
+  -- one of them, or none
+  pub set-up-cases : {P : Type 0} → ((LengthsFit setup defaults h → ⊥) → P) → (Not2 → P) → (Not3 → P) → (Not4 → P) → (SetUpFacts setup defaults h → P) → P
+  set-up-cases one two three four none =
+      let l = lengthsSay in
+      let q = queue-says cells in
+      let c = all-codes-say setup in
+      let d = all-defaults-say setup defaults in
+      split (lengthsFit (setup .slots) (length (h .statuses)) (length (h .live)) (length defaults))
+      (λ a.
+      split (queueFits cells)
+      (λ b.
+      split (allCodesAllowed setup)
+      (λ e.
+      split (allDefaultsAllowed setup defaults)
+      (λ f. none (record { lengths = l .holds a; queue = q .holds b; codes = c .holds e; defaultBits = d .holds f }))
+      (λ f. four (l .holds a, q .holds b, c .holds e, denies d f)))
+      (λ e. three (l .holds a, q .holds b, denies c e)))
+      (λ b. two (l .holds a, denies q b)))
+      (λ a. one (denies l a))
 
-  -- a number for which there is such a reason is the number given
-  pub set-up-given : (n : ℕ) → WhySetUp n → setUpRefusal setup defaults h ≡ n
+  pub given-1 : (LengthsFit setup defaults h → ⊥) → setUpRefusal setup defaults h ≡ 1
   unfolding setUpRefusal
-  set-up-given n (fits a b c d) =
+  given-1 n = sym (refused-1 setup defaults (length (h .statuses)) (length (h .live)) cells (fails lengthsSay n))
+
+  pub given-2 : Not2 → setUpRefusal setup defaults h ≡ 2
+  unfolding setUpRefusal
+  given-2 n = sym (refused-2 setup defaults (length (h .statuses)) (length (h .live)) cells (lengthsSay .tested (n .0)) (fails (queue-says cells) (n .1)))
+
+  pub given-3 : Not3 → setUpRefusal setup defaults h ≡ 3
+  unfolding setUpRefusal
+  given-3 n =
+      sym (refused-3 setup defaults (length (h .statuses)) (length (h .live)) cells (lengthsSay .tested (n .0)) (queue-says cells .tested (n .1)) (fails (all-codes-say setup) (n .2)))
+
+  pub given-4 : Not4 → setUpRefusal setup defaults h ≡ 4
+  unfolding setUpRefusal
+  given-4 n =
       sym
-      (refused-not setup defaults (length (h .statuses)) (length (h .live)) (length (h .cells))
-      (record { lengths = lengthsSay .tested a; queue = queueSays .tested b; codes = all-codes-say setup .tested c; defaultsFit = all-defaults-say setup defaults .tested d }))
-  set-up-given n (lengths a) = sym (refused-1 setup defaults (length (h .statuses)) (length (h .live)) (length (h .cells)) (fails lengthsSay a))
-  set-up-given n (queue a b) =
-      sym (refused-2 setup defaults (length (h .statuses)) (length (h .live)) (length (h .cells)) (lengthsSay .tested a) (fails queueSays b))
-  set-up-given n (codes a b c) =
-      sym (refused-3 setup defaults (length (h .statuses)) (length (h .live)) (length (h .cells)) (lengthsSay .tested a) (queueSays .tested b) (fails (all-codes-say setup) c))
-  set-up-given n (defaultBits a b c d) =
+      (refused-4 setup defaults (length (h .statuses)) (length (h .live)) cells (lengthsSay .tested (n .0)) (queue-says cells .tested (n .1)) (all-codes-say setup .tested (n .2))
+      (fails (all-defaults-say setup defaults) (n .3)))
+
+  pub given-0 : SetUpFacts setup defaults h → setUpRefusal setup defaults h ≡ 0
+  unfolding setUpRefusal
+  given-0 f =
       sym
-      (refused-4 setup defaults (length (h .statuses)) (length (h .live)) (length (h .cells)) (lengthsSay .tested a) (queueSays .tested b) (all-codes-say setup .tested c)
-      (fails (all-defaults-say setup defaults) d))
+      (refused-not setup defaults (length (h .statuses)) (length (h .live)) cells
+      (record {
+        lengths = lengthsSay .tested (f .lengths);
+        queue = queue-says cells .tested (f .queue);
+        codes = all-codes-say setup .tested (f .codes);
+        defaultsFit = all-defaults-say setup defaults .tested (f .defaultBits);
+      }))
 
-  pub given : (n : ℕ) → Why n → refusalOf setup defaults h ≡ n
-  given n (accepted a b) = refusal-none (bench setup defaults) h (set-up-given 0 a) (sound-says setup h .tested b)
-  given n (notSetUp m a) = refusal-set-up (bench setup defaults) h m (set-up-given (suc m) a)
-  given n (unsound a b) = refusal-unsound (bench setup defaults) h (set-up-given 0 a) (fails (sound-says setup h) b)
+  -- what each number says
+  abbrev SetUpBecause : ℕ → Type 0
+  SetUpBecause n =
+      cond (eqb n 1) (LengthsFit setup defaults h → ⊥) (cond (eqb n 2) Not2 (cond (eqb n 3) Not3 (cond (eqb n 4) Not4 (cond (eqb n 0) (SetUpFacts setup defaults h) ⊥))))
 
-  -- there is a reason, so the number given has it
-  some-set-up-reason : Reason WhySetUp
-  some-set-up-reason = one _ refl _ refl _ refl _ refl
-    where
-      no : (b : Bool) (P : Type 0) → Says b P → b ≡ false → P → ⊥
-      no b P s e p = true≢false (sym (s .tested p) ∙ e)
-
-      one : (x : Bool) → lengthsFit (setup .slots) (length (h .statuses)) (length (h .live)) (length defaults) ≡ x
-          → (y : Bool) → queueFits (length (h .cells)) ≡ y
-          → (z : Bool) → allCodesAllowed setup ≡ z
-          → (w : Bool) → allDefaultsAllowed setup defaults ≡ w → Reason WhySetUp
-      one false e y f z g w k = reason 1 (lengths (no _ _ lengthsSay e))
-      one true e false f z g w k = reason 2 (queue (lengthsSay .holds e) (no _ _ queueSays f))
-      one true e true f false g w k = reason 3 (codes (lengthsSay .holds e) (queueSays .holds f) (no _ _ (all-codes-say setup) g))
-      one true e true f true g false k =
-          reason 4 (defaultBits (lengthsSay .holds e) (queueSays .holds f) (all-codes-say setup .holds g) (no _ _ (all-defaults-say setup defaults) k))
-      one true e true f true g true k =
-          reason 0 (fits (lengthsSay .holds e) (queueSays .holds f) (all-codes-say setup .holds g) (all-defaults-say setup defaults .holds k))
-
-  -- SET-UP'S NUMBER, WITH ITS REASON
-  pub why-set-up : WhySetUp (setUpRefusal setup defaults h)
-  why-set-up = let r = some-set-up-reason in subst WhySetUp (sym (set-up-given (r .number) (r .why))) (r .why)
+  pub set-up-reason : Reason (0 ∷ 1 ∷ 2 ∷ 3 ∷ 4 ∷ []) SetUpBecause (setUpRefusal setup defaults h)
+  set-up-reason =
+      set-up-cases (λ n. record { number = 1; why = n; listed = tt; given = given-1 n }) (λ n. record { number = 2; why = n; listed = tt; given = given-2 n })
+      (λ n. record { number = 3; why = n; listed = tt; given = given-3 n }) (λ n. record { number = 4; why = n; listed = tt; given = given-4 n })
+      (λ f. record { number = 0; why = f; listed = tt; given = given-0 f })
 
   -- a set-up that isn't refused fulfils all four
-  pub record SetUpFacts : Type 0 where
-    pub lengths : LengthsFit
-    pub queue : QueueFits (length (h .cells))
-    pub codes : AllCodesFit setup
-    pub defaultBits : AllDefaultsFit setup defaults
-
-  pub set-up-facts : setUpRefusal setup defaults h ≡ 0 → SetUpFacts
-  set-up-facts e = by (setUpRefusal setup defaults h) why-set-up e
-    where
-      by : (n : ℕ) → WhySetUp n → n ≡ 0 → SetUpFacts
-      by n (fits a b c d) e = record { lengths = a; queue = b; codes = c; defaultBits = d }
-      by n (lengths a) e = absurd (omega arith)
-      by n (queue a b) e = absurd (omega arith)
-      by n (codes a b c) e = absurd (omega arith)
-      by n (defaultBits a b c d) e = absurd (omega arith)
-
-  -- A CALL'S NUMBER, 1 to 5 or none of them, WITH ITS REASON
-  pub why : Why (refusalOf setup defaults h)
-  why = go (setUpRefusal setup defaults h) why-set-up (soundHeld setup h) refl
-    where
-      go : (n : ℕ) → WhySetUp n → (t : Bool) → soundHeld setup h ≡ t → Why (refusalOf setup defaults h)
-      go (suc n) a t e = let r : Why (suc n) = notSetUp n a in subst Why (sym (given (suc n) r)) r
-      go zero a true e = let r : Why 0 = accepted a (sound-says setup h .holds e) in subst Why (sym (given 0 r)) r
-      go zero a false e = let r : Why 5 = unsound a (λ s. true≢false (sym (sound-says setup h .tested s) ∙ e)) in subst Why (sym (given 5 r)) r
+  pub set-up-facts : setUpRefusal setup defaults h ≡ 0 → SetUpFacts setup defaults h
+  set-up-facts e = because set-up-reason 0 e

@@ -2,7 +2,7 @@
 -- the port is sound, unbroken, with nothing carried.
 use Prim.Native.Nat.{ℕ, zero, suc, _+_, _≤_, _<_}
 use mathlib.Core.Path.{_≡_, refl, ap, ap₂, sym, _∙_}
-use mathlib.Core.Bool.{Bool, true, false, cond}
+use mathlib.Core.Bool.{Bool, true, cond}
 use mathlib.Core.List.{List, [], _∷_}
 use native.Mathlib.Omega.{arith}
 use lib.ListN.{length, replicate, length-replicate}
@@ -11,17 +11,17 @@ use Rattle.readiness.specs.declared.Status.{Status}
 use Rattle.readiness.specs.declared.Setup.{Setup}
 use Rattle.readiness.specs.declared.Dev.{Dev}
 use Rattle.readiness.specs.Blank.{blankDev}
-use Rattle.readiness.specs.Status.{down, noControl, eachFrom, statusAfterReset, stoppedByReset}
+use Rattle.readiness.specs.Status.{down, eachFrom, statusAfterReset, stoppedByReset}
 use Rattle.trace.specs.Format.{begun}
+use Rattle.trace.specs.Lent.{Start}
 use Rattle.trace.proofs.Refusing.{refusal-none}
 use Rattle.records.specs.State.{statusAt}
 use Rattle.records.specs.Sound.{Sound}
 use Rattle.records.proofs.SoundFacts.{facts-sound, down-sound}
-use Rattle.demand3.specs.Held.{Held, held, stateOf, carriedOf}
+use Rattle.demand3.specs.Held.{Held, held, stateOf}
 use Rattle.demand3.specs.Refusals.{setUpRefusal, soundCarried, soundHeld}
-use Rattle.demand3.specs.SettingUp.{Prepared, freshHeld, setsUp}
+use Rattle.demand3.specs.SettingUp.{Prepared, freshHeld, setsUp, Fresh, EverySetUp}
 use Rattle.demand3.specs.Feeding.{bench}
-use Rattle.demand3.specs.Claim.{Start}
 use Rattle.demand3.proofs.Refusals.{refusal-held}
 use Rattle.demand3.proofs.SettingUp.{set-up-no, set-up-yes}
 use Rattle.demand3.proofs.Numbers.{set-up-facts}
@@ -39,23 +39,6 @@ down-at (suc n) zero h = refl
 down-at (suc n) (suc i) h = down-at n i (omega arith)
 
 -- ---- what a set-up leaves
--- 01's list
-pub record Fresh (setup : Setup) (defaults : List ℕ) (queueLength : ℕ) (h : Held) : Type 0 where
-  pub live : h .live ≡ defaults
-  pub cells : h .cells ≡ replicate queueLength 0
-  pub clock : h .port .dev .clock .0 ≡ 0
-  pub link : h .port .dev .link ≡ false
-  pub statuses : h .statuses ≡ replicate (setup .slots) down
-  pub owed : h .port .dev .owed ≡ false
-  pub control : h .port .dev .control ≡ noControl
-  pub drsReceived : h .port .dev .«drs_received» ≡ false
-  pub received : h .port .dev .queue .received ≡ false
-  pub overflow : h .port .dev .queue .overflow ≡ false
-  pub depth : h .port .dev .queue .depth ≡ 0
-  pub start : h .port .dev .queue .start ≡ 0
-  pub carried : carriedOf (h .port) ≡ []
-  pub broken : h .port .broken ≡ false
-
 module _ (setup : Setup) (defaults : List ℕ) (h : Held) where
   -- the number is the first of 1 to 4 that applies, else 0
   pub set-up-number : setsUp setup defaults h .number ≡ setUpRefusal setup defaults h
@@ -96,7 +79,7 @@ module _ (setup : Setup) (defaults : List ℕ) (h : Held) where
           broken = refl;
         }
 
-    pub set-up-fresh : Fresh setup defaults (length (h .cells)) (setsUp setup defaults h .held)
+    set-up-fresh : Fresh setup defaults (length (h .cells)) (setsUp setup defaults h .held)
     set-up-fresh = rw (set-up-yes setup defaults h e) fresh-left
 
     -- its port is sound
@@ -122,7 +105,7 @@ module _ (setup : Setup) (defaults : List ℕ) (h : Held) where
         ∙ refusal-held setup defaults h (length (h .statuses)) (length (h .live)) (length (h .cells)) refl refl refl
         ∙ e
 
-    fresh-start : Start setup defaults (freshHeld setup defaults h)
+    fresh-start : Start (bench setup defaults) (freshHeld setup defaults h)
     unfolding freshHeld
     fresh-start =
         record {
@@ -132,5 +115,9 @@ module _ (setup : Setup) (defaults : List ℕ) (h : Held) where
         }
 
     -- (f) it leaves a sound port, unbroken, with nothing carried
-    pub set-up-start : Start setup defaults (setsUp setup defaults h .held)
+    pub set-up-start : Start (bench setup defaults) (setsUp setup defaults h .held)
     set-up-start = rw (set-up-yes setup defaults h e) fresh-start
+
+-- WHAT A SET-UP LEAVES
+pub set-up-leaves : EverySetUp
+set-up-leaves setup defaults h = record { refused = set-up-refused setup defaults h; fresh = set-up-fresh setup defaults h }

@@ -1,5 +1,5 @@
 -- Laws of refusals 1 to 4: tests at every slot, and the first test that fails.
-use Prim.Native.Nat.{ℕ, _*_, _≤_, _<_}
+use Prim.Native.Nat.{ℕ, _*_}
 use mathlib.Core.Path.{_≡_, refl, ap, sym}
 use mathlib.Core.Bool.{Bool, true, false, _&&_, cond}
 use mathlib.Core.List.{List}
@@ -14,6 +14,7 @@ use Rattle.registers.specs.Rows.{checkedWords, defaultAllowed}
 use Rattle.readiness.specs.declared.Setup.{Setup}
 use Rattle.records.specs.Requests.{wordAt}
 use Rattle.demand3.specs.Held.{Held}
+use Rattle.demand3.specs.GivenForNo.{Fits}
 use Rattle.demand3.specs.Refusals.{lengthsFit, queueFits, allCodesAllowed, wordsAllowed, allDefaultsAllowed, firstFailed, setUpTests, setUpRefusal}
 
 -- the words of a slot whose defaults are looked at: of each kind, two
@@ -27,13 +28,6 @@ words-checked Endpoint defaults slot words e =
     ap (λ (l : List ℕ). wordAllowed Endpoint defaults slot (getD l 0 0) && (wordAllowed Endpoint defaults slot (getD l 1 0) && true)) (sym e)
 
 -- ---- lengths that fit
-pub record Fits (slots statuses live defaults : ℕ) : Type 0 where
-  pub some : 0 < slots
-  pub most : slots ≤ 32
-  pub perSlot : statuses ≡ slots
-  pub words : live ≡ 64 * slots
-  pub defaultWords : defaults ≡ 64 * slots
-
 pub fits-of : (slots statuses live defaults : ℕ) → lengthsFit slots statuses live defaults ≡ true → Fits slots statuses live defaults
 unfolding lengthsFit
 fits-of slots statuses live defaults e =

@@ -11,7 +11,7 @@ use Rattle.readiness.specs.declared.Setup.{Setup}
 use Rattle.trace.specs.Format.{begun, next, Bytes}
 use Rattle.trace.specs.Bench.{Bench}
 use Rattle.trace.specs.Lent.{refusal}
-use Rattle.trace.specs.Claim.{Keeps}
+use Rattle.trace.specs.inner.Keeps.{Keeps}
 use Rattle.trace.proofs.Lists.{take-pad}
 use Rattle.trace.proofs.Gathering.{begun-short}
 use Rattle.trace.proofs.Laws.{begun-is, incomplete-begun}
@@ -19,11 +19,12 @@ use Rattle.trace.proofs.Refusing.{refusal-none, refusal-accepted}
 use Rattle.records.specs.State.{State}
 use Rattle.records.specs.Sound.{sound, Sound, Fitting}
 use Rattle.records.proofs.SoundFacts.{exact-fits}
-use Rattle.records.proofs.Kept.{SoundSetup, keeps-itself}
+use Rattle.records.specs.StaysSound.{SoundSetup}
+use Rattle.records.proofs.Kept.{keeps-itself}
 use Rattle.demand3.specs.Held.{Held, stateOf, carriedOf, heldOf}
 use Rattle.demand3.specs.Refusals.{setUpRefusal, soundHeld}
 use Rattle.demand3.specs.Feeding.{bench}
-use Rattle.demand3.specs.Claim.{Typed}
+use Rattle.demand3.specs.Compared.{Typed}
 use Rattle.demand3.proofs.Refusals.{refusal-held}
 use Rattle.demand3.proofs.Good.{Good as GoodSince, good-keeps}
 use Rattle.demand3.proofs.Numbers.{sound-says, set-up-facts}

@@ -7,7 +7,7 @@ use native.Mathlib.Omega.{arith}
 use native.Mathlib.Nat.{div-div-eq-div-mul}
 use lib.ListN.{length}
 use Rattle.bits.proofs.Numbers.{four-bytes}
-use Rattle.bits.specs.Bits.{bit}
+use Rattle.bits.specs.Bits.{bit, one}
 use Rattle.bits.proofs.Bits.{bit-above}
 use Rattle.frs_queue.specs.declared.Tally.{Tally}
 use Rattle.readiness.specs.declared.Setup.{Setup}
@@ -17,13 +17,13 @@ use Rattle.records.specs.declared.Record.{Record}
 use Rattle.records.specs.declared.Record.the-variants.{Advance}
 use Rattle.records.specs.State.{State}
 use Rattle.records.specs.Decode.{four, decode}
-use Rattle.records.specs.Answer.{completionNumber, one, interrupts, answerBytes, Ran}
+use Rattle.records.specs.Answer.{completionNumber, interrupts, answerBytes, Ran}
 use Rattle.times.specs.Moments.{clockEnd}
 use Rattle.records.specs.Run.{run}
 use Rattle.records.proofs.Laws.{TwoAreOne, two-advances-are-one}
 use Rattle.records.proofs.Queued.{interrupt-bits}
 use Rattle.records.specs.Device.{inBytes, device}
-use Rattle.demand3.specs.Claim.{advanceBy, AddUp}
+use Rattle.demand3.specs.Compared.{advanceBy, AddUp}
 
 -- ---- a record 01 and its bytes
 abbrev advance : ℕ → Record

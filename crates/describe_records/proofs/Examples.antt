@@ -3,7 +3,8 @@ use mathlib.Core.Path.{_≡_, refl}
 use Rattle.messages.specs.declared.Message.the-variants.{Frs}
 use Rattle.records.specs.declared.Record.{Record}
 use Rattle.records.specs.declared.Record.the-variants.{Read, Message, ClearBits, Control}
-use Rattle.text_line.specs.Text.{chars, glyphOf, hexOf, decimalFrom, textIf}
+use Rattle.bits.specs.Text.{chars}
+use Rattle.text_line.specs.Text.{glyphOf, hexOf, decimalFrom, textIf}
 use Rattle.describe_records.specs.Records.{idText, offsetOf, offsetText, placeText, enablesText, switchText, signallingMeaning, signallingText, reasonMeaning, frsText, messageText, requestText, messageRecordText, listedText, bitsText, clearText, controlText, recordText}
 
 -- word 0 of slot 0, all bytes

@@ -8,7 +8,8 @@ use Rattle.messages.specs.declared.Message.the-variants.{Drs, Frs, NotReadiness
 use Rattle.records.specs.declared.Request.{Request}
 use Rattle.records.specs.declared.Record.{Record}
 use Rattle.records.specs.declared.Record.the-variants.{Advance, Read, Write, Message as OfMessage, LinkUp, LinkDown, ColdReset, ReadQueue, RemoveOldest, ClearBits, Control, HardwareSet, ReadBits, NoKind}
-use Rattle.text_line.specs.Text.{chars, hexOf, named, textIf}
+use Rattle.bits.specs.Text.{chars}
+use Rattle.text_line.specs.Text.{hexOf, named, textIf}
 
 -- ---- parts
 

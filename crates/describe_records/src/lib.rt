@@ -1,2 +1,2 @@
-// Records in words: text put into a line that is lent, as in `line_text`.
+// Records in words: text put into a line that is lent, as in `text_line`.
 pub mod record_words; // a record, a message

@@ -103,7 +103,7 @@ pub fn put_signalling(line: &mut [u8], at: usize, signalling: u8) -> usize
 // ---- Messages
 
 // What an FRS reason means.
-fn put_meaning(line: &mut [u8], at: usize, reason: u8) -> usize
+fn put_reason_meaning(line: &mut [u8], at: usize, reason: u8) -> usize
     ensures { λ r. ⌜ Put (reasonMeaning reason) at (now (line .entry)) r (now (line .exit)) ⌝ }
 {
     match reason {
@@ -123,7 +123,7 @@ pub fn put_frs(line: &mut [u8], at: usize, id: u16, reason: u8) -> usize
     let a = put_text(&mut *line, at, b"FRS from ");
     let b = put_id(&mut *line, a, id);
     let c = put_named(&mut *line, b, b", reason ", reason as u64);
-    put_meaning(line, c, reason)
+    put_reason_meaning(line, c, reason)
 }
 
 // A DRS: the requester ID.

@@ -1,10 +1,11 @@
 -- The state of the bench in words.
-use Prim.Native.Nat.{ℕ, _+_, _-_, _/_, _%_}
+use Prim.Native.Nat.{ℕ, _%_}
 use mathlib.Core.Bool.{Bool, cond}
 use mathlib.Core.List.{List, _++_}
 use lib.Dec.{ltb}
 use lib.ListN.{length, getD}
 use Rattle.times.specs.declared.Nanos.{Nanos}
+use Rattle.frs_queue.specs.Queue.{placeOf, reasonIn}
 use Rattle.readiness.specs.declared.Cause.{Cause}
 use Rattle.readiness.specs.declared.Cause.the-variants.{LinkUp, Flr, D3hot}
 use Rattle.readiness.specs.declared.Phase.{Phase}
@@ -51,14 +52,14 @@ queueText depth most = named (chars "queue depth ") depth ++ named (chars " of "
 
 -- the message in a queue cell (01, "Queue"): reason · 65,536 + ID
 unfoldable pub cellText : ℕ → List ℕ
-cellText cell = frsText (cell % 65536) (cell / 65536 % 16)
+cellText cell = frsText (cell % 65536) (reasonIn cell % 16)
 
--- where the i-th oldest message is, in a ring of n cells
-unfoldable pub placeOf : (start i n : ℕ) → ℕ
-placeOf start i n = cond (ltb start n) (cond (ltb i (n - start)) (start + i) (i - (n - start))) 0
+-- the cell of the i-th oldest message; a ring has no more messages than cells
+unfoldable pub queuedCell : List ℕ → (start i : ℕ) → ℕ
+queuedCell cells start i = cond (ltb i (length cells)) (getD cells (placeOf (length cells) start i) 0) 0
 
 unfoldable pub queuedText : List ℕ → (start i : ℕ) → List ℕ
-queuedText cells start i = cellText (getD cells (placeOf start i (length cells)) 0)
+queuedText cells start i = cellText (queuedCell cells start i)
 
 -- what a Pending slot is starting after
 unfoldable pub causeText : Cause → List ℕ

@@ -1,11 +1,12 @@
 // The state of the bench in words: link, port bits, queue and slots.
 ghost use mathlib.Core.Path.{_≡_};
 ghost use Rattle.text_line.specs.Line.{Put};
-ghost use Rattle.describe_state.specs.States.{momentText, linkText, bitText, portBitsText, portControlText, queueText, cellText, placeOf, queuedText, causeText, pendingText, phaseText, slotText};
+ghost use Rattle.describe_state.specs.States.{momentText, linkText, bitText, portBitsText, portControlText, queueText, cellText, queuedCell, queuedText, causeText, pendingText, phaseText, slotText};
 use bits::word_at;
 use describe_records::record_words::put_frs;
 use describe_records::record_words::put_signalling;
 use describe_records::record_words::put_switch;
+use frs_queue::place;
 use readiness::Cause;
 use readiness::Control;
 use readiness::Dev;
@@ -79,25 +80,21 @@ pub fn put_cell(line: &mut [u8], at: usize, cell: u32) -> usize
     put_frs(line, at, id, reason)
 }
 
-// Where the i-th oldest message is, in a ring of n cells from `start`.
-fn place_of(start: usize, i: usize, n: usize) -> usize
-    ensures { λ r. ⌜ r ≡ placeOf start i n ⌝ }
+// The cell of the i-th oldest message of the queue that starts at cell `start`.
+fn queued_cell(cells: &[u32], start: usize, i: usize) -> u32
+    ensures { λ r. ⌜ r ≡ queuedCell (now (cells .entry)) start i ⌝ }
 {
-    if start < n {
-        if i < n - start {
-            return start + i;
-        }
-        return i - (n - start);
+    if i < cells.len() {
+        return word_at(cells, place(start, i, cells.len()));
     }
     0
 }
 
-// The i-th oldest message of the queue that starts at cell `start`.
+// The i-th oldest message of that queue.
 pub fn put_queued(line: &mut [u8], at: usize, cells: &[u32], start: usize, i: usize) -> usize
     ensures { λ r. ⌜ Put (queuedText (now (cells .entry)) start i) at (now (line .entry)) r (now (line .exit)) ⌝ }
 {
-    let cell = word_at(cells, place_of(start, i, cells.len()));
-    put_cell(line, at, cell)
+    put_cell(line, at, queued_cell(cells, start, i))
 }
 
 // What a Pending slot is starting after.

@@ -3,7 +3,8 @@ use mathlib.Core.Path.{_≡_, refl}
 use mathlib.Core.List.{[], _∷_}
 use Rattle.messages.specs.declared.Message.the-variants.{Frs}
 use Rattle.records.specs.declared.Record.the-variants.{Message, LinkUp}
-use Rattle.text_line.specs.Text.{chars, glyphOf, hexOf, decimalFrom, textIf}
+use Rattle.bits.specs.Text.{chars}
+use Rattle.text_line.specs.Text.{glyphOf, hexOf, decimalFrom, textIf}
 use Rattle.describe_records.specs.Records.{listedText, kindOf}
 use Rattle.describe_records.proofs.Examples.{firstRead}
 use Rattle.describe_trace.specs.Answers.{wrongStateText, statusText, interruptsText, countText, dataOf, readsOf, dataText, answerText}

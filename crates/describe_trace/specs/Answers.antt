@@ -5,7 +5,8 @@ use mathlib.Core.List.{List, [], _++_}
 use lib.Dec.{eqb}
 use lib.ListN.{getD}
 use Rattle.records.specs.declared.Record.{Record}
-use Rattle.text_line.specs.Text.{chars, hexOf, named, textIf}
+use Rattle.bits.specs.Text.{chars}
+use Rattle.text_line.specs.Text.{hexOf, named, textIf}
 use Rattle.describe_records.specs.Records.{kindOf, listedText, bit0, bit1, bit2}
 
 -- status 23, by the record's kind: what of the link or the slot is not as the record wants it

@@ -5,7 +5,8 @@ use mathlib.Core.List.{List, [], _++_}
 use lib.Dec.{eqb, ltb}
 use Rattle.times.specs.declared.Nanos.{Nanos}
 use Rattle.records.specs.declared.Record.{Record}
-use Rattle.text_line.specs.Text.{chars, hexOf, named, textIf, columnOf}
+use Rattle.bits.specs.Text.{chars}
+use Rattle.text_line.specs.Text.{hexOf, named, textIf, columnOf}
 use Rattle.describe_records.specs.Records.{recordText}
 use Rattle.describe_trace.specs.Answers.{answerText}
 

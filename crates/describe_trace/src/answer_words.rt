@@ -2,11 +2,11 @@
 ghost use mathlib.Core.Path.{_≡_};
 ghost use Rattle.text_line.specs.Line.{Put};
 ghost use Rattle.describe_trace.specs.Answers.{wrongStateText, badValueText, statusText, interruptsText, countText, dataOf, readsOf, dataText, answerText};
+use bits::byte_at;
+use bits::u64_of_u8;
 use describe_records::record_words::kind_of;
 use describe_records::record_words::put_listed;
 use records::Record;
-use text_line::numbers::byte_at;
-use text_line::numbers::wide8;
 use text_line::text::put_hex8;
 use text_line::text::put_if;
 use text_line::text::put_named;
@@ -78,10 +78,10 @@ fn put_count(line: &mut [u8], at: usize, name: &[u8], n: u8) -> usize
 fn data_of(answer: &[u8]) -> u64
     ensures { λ r. ⌜ r ≡ dataOf (now (answer .entry)) ⌝ }
 {
-    wide8(byte_at(answer, 4))
-        + 256 * wide8(byte_at(answer, 5))
-        + 65536 * wide8(byte_at(answer, 6))
-        + 16777216 * wide8(byte_at(answer, 7))
+    u64_of_u8(byte_at(answer, 4))
+        + 256 * u64_of_u8(byte_at(answer, 5))
+        + 65536 * u64_of_u8(byte_at(answer, 6))
+        + 16777216 * u64_of_u8(byte_at(answer, 7))
 }
 
 // Whether a record of this kind reads something: registers, the queue register, status bits.

@@ -73,7 +73,7 @@ pub fn put_incomplete(
 }
 
 // What a number given for no means.
-fn put_meaning(line: &mut [u8], at: usize, number: u8) -> usize
+fn put_number_meaning(line: &mut [u8], at: usize, number: u8) -> usize
     ensures { λ r. ⌜ Put (numberMeaning number) at (now (line .entry)) r (now (line .exit)) ⌝ }
 {
     match number {
@@ -102,7 +102,7 @@ pub fn put_number(line: &mut [u8], at: usize, number: u8) -> usize
     ensures { λ r. ⌜ Put (numberText number) at (now (line .entry)) r (now (line .exit)) ⌝ }
 {
     let next = put_named(&mut *line, at, b"number ", number as u64);
-    put_meaning(line, next, number)
+    put_number_meaning(line, next, number)
 }
 
 // A set-up that is refused.

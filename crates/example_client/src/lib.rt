@@ -1,10 +1,10 @@
 // A caller: a card of one slot, fed in two calls over memory of the caller's own; its result is said by the plain bench alone.
 ghost use mathlib.Core.Path.{_≡_};
-ghost use mathlib.Core.List.{[], _∷_, _++_};
+ghost use mathlib.Core.List.{[], _∷_};
 ghost use lib.ListN.{take};
 ghost use Rattle.demand3.specs.Held.{held};
 ghost use Rattle.demand3.specs.Feeding.{feeds, calls};
-ghost use Rattle.bench.specs.Entries.{leftByFeed};
+ghost use Rattle.bench.specs.Entries.{leftByFeed, outcomeIs};
 ghost use Rattle.two_calls.specs.Twice.{came, lend, ByPlainBench};
 use bench::Outcome;
 use bench_by_value::feed_first;
@@ -25,7 +25,7 @@ struct Once {
 }
 
 fn once_with(fed: Fed, live: [u32; 64], cells: [u32; 4]) -> Once
-    ensures { λ r. ⌜ r ≡ record { outcome = record { number = fed .number; consumed = fed .consumed; written = fed .written }; port = fed .port; statuses = take 1 (fed .statuses); live = live; cells = cells } ⌝ }
+    ensures { λ r. ⌜ r ≡ record { outcome = outcomeIs fed; port = fed .port; statuses = take 1 (fed .statuses); live = live; cells = cells } ⌝ }
 {
     let outcome = Outcome {
         number: fed.number,
@@ -103,7 +103,8 @@ fn feed_twice(
     second_answers: &mut [u8],
 ) -> Both
     ensures { λ r. ⌜ came r (now (first .entry)) (now (second .entry)) (now («first_answers» .exit)) (now («second_answers» .exit))
-        ≡ calls setup (now (defaults .entry)) (held port statuses live cells) (lend (now (first .entry)) (now («first_answers» .entry)) ∷ lend (now (second .entry)) (now («second_answers» .entry)) ∷ []) ⌝ }
+        ≡ calls setup (now (defaults .entry)) (held port statuses live cells)
+        (lend (now (first .entry)) (now («first_answers» .entry)) ∷ lend (now (second .entry)) (now («second_answers» .entry)) ∷ []) ⌝ }
 {
     let one = feed_once(
         setup,
@@ -136,7 +137,8 @@ pub fn twice(
     first_answers: &mut [u8],
     second_answers: &mut [u8],
 ) -> Both
-    ensures { λ r. ⌜ ByPlainBench setup (now (defaults .entry)) (held port statuses live cells) (came r (now (first .entry)) (now (second .entry)) (now («first_answers» .exit)) (now («second_answers» .exit))) ⌝ }
+    ensures { λ r. ⌜ ByPlainBench setup (now (defaults .entry)) (held port statuses live cells)
+        (came r (now (first .entry)) (now (second .entry)) (now («first_answers» .exit)) (now («second_answers» .exit))) ⌝ }
 {
     feed_twice(
         setup,

@@ -12,7 +12,8 @@ use Rattle.readiness.specs.declared.Setup.{Setup}
 use Rattle.readiness.specs.declared.Dev.{Dev}
 use Rattle.readiness.specs.Status.{readyPhase, isReady, allReady}
 use Rattle.readiness.specs.Events.{dueEvent, due}
-use Rattle.readiness.specs.Settle.{Scene, SlotScene, slotHappens, slotSettles}
+use Rattle.readiness.specs.Settle.{Scene}
+use Rattle.readiness.specs.inner.OneSlot.{SlotScene, slotHappens, slotSettles}
 use Rattle.readiness.proofs.Laws.{settle-rest}
 use Rattle.records.specs.declared.Completion.the-variants as completion
 use Rattle.records.specs.declared.Reply.{Reply}

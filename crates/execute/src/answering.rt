@@ -1,8 +1,9 @@
 // An answer's 8 bytes: status; interrupts; FRS queued; FRS dropped; 4 data bytes.
 ghost use mathlib.Core.Path.{_≡_};
 ghost use Prim.Native.Nat.{_<_};
-ghost use Rattle.records.specs.Answer.{completionNumber, one as oneOf, interrupts, answerBytes, reply};
+ghost use Rattle.records.specs.Answer.{completionNumber, interrupts, answerBytes, reply};
 ghost use Rattle.frs_queue.specs.Queue.{noTally};
+use bits::one_if;
 use frs_queue::Tally;
 use records::Completion;
 use records::Reply;
@@ -25,18 +26,11 @@ pub fn completion_number(completion: Completion) -> u8
     }
 }
 
-pub fn one(b: bool) -> u8
-    ensures { λ r. ⌜ r ≡ oneOf b ⌝ }
-    ensures { λ r. ⌜ r < 2 ⌝ }
-{
-    if b { 1 } else { 0 }
-}
-
 // Interrupts: bit 0 Received, 1 Overflow, 2 DRS.
 fn interrupt_bits(tally: Tally) -> u8
     ensures { λ r. ⌜ r ≡ interrupts tally ⌝ }
 {
-    one(tally.received) + 2 * one(tally.overflow) + 4 * one(tally.drs)
+    one_if(tally.received) + 2 * one_if(tally.overflow) + 4 * one_if(tally.drs)
 }
 
 pub fn answer_bytes(reply: Reply) -> [u8; 8]

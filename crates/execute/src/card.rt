@@ -19,6 +19,7 @@ ghost use Rattle.readiness.specs.Fields.{withClock};
 ghost use Rattle.records.specs.CardRecords.{advanceEffect, linkUpEffect, linkDownEffect, coldResetEffect};
 ghost use Rattle.readiness.specs.inner.Phases.{statusesIn};
 ghost use Rattle.records.specs.inner.Parts.{cardEffect, cardRun, cardRan, startedEffect, isRefused};
+ghost use Rattle.execute.specs.inner.Lent.{stateIn, OfCard};
 use crate::answering::plain_reply;
 use crate::kinds::kind_of_entry;
 use crate::port::root_port;
@@ -42,7 +43,8 @@ fn with_clock(dev: Dev, clock: Nanos) -> Dev
 
 // Advance clock; 22 if the clock would pass its end.
 fn advance(dev: Dev, by: Nanos) -> Started
-    ensures { λ r. ⌜ ((statuses : List Status) (live cells : List ℕ) → startedEffect r statuses live cells ≡ advanceEffect by (state dev statuses live cells)) ⌝ }
+    ensures { λ r. ⌜ ((statuses : List Status) (live cells : List ℕ) → startedEffect r statuses live cells
+        ≡ advanceEffect by (state dev statuses live cells)) ⌝ }
 {
     let clock = times::sum(dev.clock, by);
     if times::nanos_number(clock) <= times::CLOCK_END {
@@ -53,7 +55,9 @@ fn advance(dev: Dev, by: Nanos) -> Started
 
 // Advance clock where no slot becomes Ready and no DRS is to be told: the clock alone moves.
 pub fn advance_alone(dev: Dev, by: Nanos) -> PortDone
-    ensures { λ r. ⌜ ((setup : Setup) (defaults : List ℕ) (statuses : List Status) (live cells : List ℕ) → due (sumOf (dev .clock) by) statuses ≡ [] → (dev .owed && allReady setup statuses) ≡ false → cardRun setup defaults (variants.Advance by) (state dev statuses live cells) ≡ record { after = state (r .dev) statuses live cells; reply = r .reply }) ⌝ }
+    ensures { λ r. ⌜ ((setup : Setup) (defaults : List ℕ) (statuses : List Status) (live cells : List ℕ)
+        → due (sumOf (dev .clock) by) statuses ≡ [] → (dev .owed && allReady setup statuses) ≡ false
+        → cardRun setup defaults (variants.Advance by) (state dev statuses live cells) ≡ record { after = state (r .dev) statuses live cells; reply = r .reply }) ⌝ }
 {
     let clock = times::sum(dev.clock, by);
     if times::nanos_number(clock) <= times::CLOCK_END {
@@ -71,7 +75,8 @@ pub fn advance_alone(dev: Dev, by: Nanos) -> PortDone
 // Link up: every slot Pending, a DRS is owed; 23 when up.
 fn link_up(setup: Setup, dev: Dev, phases: &mut [u64]) -> Started
     requires { ⌜ (setup .slots ≤ 32) × (length (statusesIn (now phases)) ≡ setup .slots) ⌝ }
-    ensures { λ r. ⌜ ((live cells : List ℕ) → startedEffect r (statusesIn (now (phases .exit))) live cells ≡ linkUpEffect setup (state dev (statusesIn (now (phases .entry))) live cells)) ⌝ }
+    ensures { λ r. ⌜ ((live cells : List ℕ) → startedEffect r (statusesIn (now (phases .exit))) live cells
+        ≡ linkUpEffect setup (stateIn dev (now (phases .entry)) live cells)) ⌝ }
     ensures { λ r. ⌜ (isRefused r ≡ true → now (phases .exit) ≡ now (phases .entry)) ⌝ }
 {
     if dev.link {
@@ -108,8 +113,9 @@ fn link_down(
     defaults: &[u32],
 ) -> Started
     requires { ⌜ now table ≡ masks ⌝ }
-    requires { ⌜ (setup .slots ≤ 32) × (length (statusesIn (now phases)) ≡ setup .slots) × (length (now live) ≤ setup .slots * 64) ⌝ }
-    ensures { λ r. ⌜ ((cells : List ℕ) → startedEffect r (statusesIn (now (phases .exit))) (now (live .exit)) cells ≡ linkDownEffect setup (now (defaults .entry)) (state dev (statusesIn (now (phases .entry))) (now (live .entry)) cells)) ⌝ }
+    requires { ⌜ OfCard setup (now phases) (now live) ⌝ }
+    ensures { λ r. ⌜ ((cells : List ℕ) → startedEffect r (statusesIn (now (phases .exit))) (now (live .exit)) cells
+        ≡ linkDownEffect setup (now (defaults .entry)) (stateIn dev (now (phases .entry)) (now (live .entry)) cells)) ⌝ }
     ensures { λ r. ⌜ (isRefused r ≡ true → (now (phases .exit) ≡ now (phases .entry)) × (now (live .exit) ≡ now (live .entry))) ⌝ }
 {
     if dev.link {
@@ -129,7 +135,8 @@ fn cold_reset(
     defaults: &[u32],
 ) -> Started
     requires { ⌜ length (statusesIn (now phases)) ≡ setup .slots ⌝ }
-    ensures { λ r. ⌜ ((cells : List ℕ) → startedEffect r (statusesIn (now (phases .exit))) (now (live .exit)) cells ≡ coldResetEffect setup (now (defaults .entry)) (state dev (statusesIn (now (phases .entry))) (now (live .entry)) cells)) ⌝ }
+    ensures { λ r. ⌜ ((cells : List ℕ) → startedEffect r (statusesIn (now (phases .exit))) (now (live .exit)) cells
+        ≡ coldResetEffect setup (now (defaults .entry)) (stateIn dev (now (phases .entry)) (now (live .entry)) cells)) ⌝ }
     ensures { λ r. ⌜ isRefused r ≡ false ⌝ }
 {
     config_words::cold_reset(live, defaults);
@@ -148,8 +155,9 @@ fn start(
     record: Record,
 ) -> Started
     requires { ⌜ now table ≡ masks ⌝ }
-    requires { ⌜ (setup .slots ≤ 32) × (length (statusesIn (now phases)) ≡ setup .slots) × (length (now live) ≤ setup .slots * 64) ⌝ }
-    ensures { λ r. ⌜ ((cells : List ℕ) → startedEffect r (statusesIn (now (phases .exit))) (now (live .exit)) cells ≡ cardEffect setup (now (defaults .entry)) «record» (state dev (statusesIn (now (phases .entry))) (now (live .entry)) cells)) ⌝ }
+    requires { ⌜ OfCard setup (now phases) (now live) ⌝ }
+    ensures { λ r. ⌜ ((cells : List ℕ) → startedEffect r (statusesIn (now (phases .exit))) (now (live .exit)) cells
+        ≡ cardEffect setup (now (defaults .entry)) «record» (stateIn dev (now (phases .entry)) (now (live .entry)) cells)) ⌝ }
     ensures { λ r. ⌜ (isRefused r ≡ true → (now (phases .exit) ≡ now (phases .entry)) × (now (live .exit) ≡ now (live .entry))) ⌝ }
 {
     match record {
@@ -173,7 +181,8 @@ fn start(
 // Before the answer to a record that is done, slots whose ready time is at or before the clock become Ready.
 fn settled(setup: Setup, dev: Dev, phases: &mut [u64], cells: &mut [u32]) -> PortDone
     requires { ⌜ (setup .slots ≤ 32) × (length (statusesIn (now phases)) ≡ setup .slots) ⌝ }
-    ensures { λ r. ⌜ ((before : State) (live : List ℕ) → cardRan r (statusesIn (now (phases .exit))) live (now (cells .exit)) ≡ answered setup before (does (state dev (statusesIn (now (phases .entry))) live (now (cells .entry))) noTally 0)) ⌝ }
+    ensures { λ r. ⌜ ((before : State) (live : List ℕ) → cardRan r (statusesIn (now (phases .exit))) live (now (cells .exit))
+        ≡ answered setup before (does (stateIn dev (now (phases .entry)) live (now (cells .entry))) noTally 0)) ⌝ }
 {
     let port = settle::settle(setup, phases, root_port(dev), cells);
     let after = port.dev;
@@ -200,8 +209,9 @@ pub fn run_card(
     record: Record,
 ) -> PortDone
     requires { ⌜ now table ≡ masks ⌝ }
-    requires { ⌜ (setup .slots ≤ 32) × (length (statusesIn (now phases)) ≡ setup .slots) × (length (now live) ≤ setup .slots * 64) ⌝ }
-    ensures { λ r. ⌜ cardRan r (statusesIn (now (phases .exit))) (now (live .exit)) (now (cells .exit)) ≡ cardRun setup (now (defaults .entry)) «record» (state dev (statusesIn (now (phases .entry))) (now (live .entry)) (now (cells .entry))) ⌝ }
+    requires { ⌜ OfCard setup (now phases) (now live) ⌝ }
+    ensures { λ r. ⌜ cardRan r (statusesIn (now (phases .exit))) (now (live .exit)) (now (cells .exit))
+        ≡ cardRun setup (now (defaults .entry)) «record» (stateIn dev (now (phases .entry)) (now (live .entry)) (now (cells .entry))) ⌝ }
 {
     let started = start(
         table,

@@ -12,8 +12,8 @@ ghost use Rattle.readiness.specs.Fields.{withQueue, withControl};
 ghost use Rattle.records.specs.PortRecords.{front, messageDone, messageEffect, clearedDev, controlOf, controlEffect, statusBits};
 ghost use Rattle.records.specs.inner.Parts.{portAnswered, portRun, portRan};
 use crate::answering::no_tally;
-use crate::answering::one;
 use crate::answering::plain_reply;
+use bits::one_if;
 use frs_queue::Frs;
 use frs_queue::Queue;
 use messages::Message;
@@ -81,7 +81,8 @@ fn receive(port_id: u16, dev: Dev, cells: &mut [u32], message: Message) -> PortD
 
 // An FRS arrives by a message, with the link up.
 pub fn receive_frs(dev: Dev, cells: &mut [u32], frs: Frs) -> QueueDone
-    ensures { λ r. ⌜ ((id : ℕ) → dev .link ≡ true → portRun id (variants.Message (message.Frs (frs .id) (frs .reason))) (front dev (now (cells .entry))) ≡ record { after = front (withQueue dev (r .queue)) (now (cells .exit)); reply = r .reply }) ⌝ }
+    ensures { λ r. ⌜ ((id : ℕ) → dev .link ≡ true
+        → portRun id (variants.Message (message.Frs (frs .id) (frs .reason))) (front dev (now (cells .entry))) ≡ record { after = front (withQueue dev (r .queue)) (now (cells .exit)); reply = r .reply }) ⌝ }
 {
     let queue = dev.queue;
     let arrival = frs_queue::arrive(queue, no_tally(), dev.control.frs_interrupt, cells, frs);
@@ -169,7 +170,9 @@ fn status_bits(dev: Dev) -> u32
     ensures { λ r. ⌜ r ≡ statusBits dev ⌝ }
 {
     let queue = dev.queue;
-    bits::u32_of_u8(one(queue.received) + 2 * one(queue.overflow) + 4 * one(dev.drs_received))
+    bits::u32_of_u8(
+        one_if(queue.received) + 2 * one_if(queue.overflow) + 4 * one_if(dev.drs_received),
+    )
 }
 
 // A record that touches the root port alone runs. A request to a slot that there is not is refused with 20.

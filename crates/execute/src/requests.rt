@@ -88,7 +88,8 @@ fn settled(
     data: u32,
 ) -> SlotDone
     requires { ⌜ slot < 32 ⌝ }
-    ensures { λ r. ⌜ ((before : Seat) (live : List ℕ) → slotRan r live (now (cells .exit)) ≡ slotAnswered bus entry slot before (does (seat dev status live (now (cells .entry))) noTally «data»)) ⌝ }
+    ensures { λ r. ⌜ ((before : Seat) (live : List ℕ) → slotRan r live (now (cells .exit))
+        ≡ slotAnswered bus entry slot before (does (seat dev status live (now (cells .entry))) noTally «data»)) ⌝ }
 {
     let settled = settle::settle_slot(bus, entry, slot, status, root_port(dev), cells);
     let port = settled.port;
@@ -116,7 +117,8 @@ pub fn run_read(
     q: Request,
 ) -> Reply
     requires { ⌜ 64 * slots ≤ length (now live) ⌝ }
-    ensures { λ r. ⌜ ((bus : ℕ) (entry : Slot) (defaults : List ℕ) (slot : ℕ) (cells : List ℕ) → slotRun slots kind bus entry defaults slot (variants.Read q) (seat dev status (now (live .entry)) cells) ≡ record { after = seat dev status (now (live .entry)) cells; reply = r }) ⌝ }
+    ensures { λ r. ⌜ ((bus : ℕ) (entry : Slot) (defaults : List ℕ) (slot : ℕ) (cells : List ℕ)
+        → slotRun slots kind bus entry defaults slot (variants.Read q) (seat dev status (now (live .entry)) cells) ≡ record { after = seat dev status (now (live .entry)) cells; reply = r }) ⌝ }
 {
     let route = route_of(slots, kind, dev, status, true, q);
     if is_access(route) {
@@ -142,7 +144,8 @@ fn finished(
     cells: &mut [u32],
 ) -> SlotDone
     requires { ⌜ slot < 32 ⌝ }
-    ensures { λ r. ⌜ ((before : Seat) (live : List ℕ) → slotRan r live (now (cells .exit)) ≡ slotAnswered bus entry slot before (does (seat dev status live (now (cells .entry))) noTally 0)) ⌝ }
+    ensures { λ r. ⌜ ((before : Seat) (live : List ℕ) → slotRan r live (now (cells .exit))
+        ≡ slotAnswered bus entry slot before (does (seat dev status live (now (cells .entry))) noTally 0)) ⌝ }
 {
     if settle::is_ready(status) {
         return SlotDone {
@@ -172,7 +175,8 @@ pub fn run_write(
 ) -> SlotDone
     requires { ⌜ now table ≡ masks ⌝ }
     requires { ⌜ (slot < 32) × (64 * slots ≤ length (now live)) × (64 * slots ≤ length (now defaults)) ⌝ }
-    ensures { λ r. ⌜ slotRan r (now (live .exit)) (now (cells .exit)) ≡ slotRun slots kind bus entry (now (defaults .entry)) slot (variants.Write q value) (seat dev status (now (live .entry)) (now (cells .entry))) ⌝ }
+    ensures { λ r. ⌜ slotRan r (now (live .exit)) (now (cells .exit))
+        ≡ slotRun slots kind bus entry (now (defaults .entry)) slot (variants.Write q value) (seat dev status (now (live .entry)) (now (cells .entry))) ⌝ }
 {
     let route = route_of(slots, kind, dev, status, false, q);
     if is_access(route) {
@@ -199,7 +203,8 @@ pub fn run_hardware(
 ) -> Reply
     requires { ⌜ now table ≡ masks ⌝ }
     requires { ⌜ 64 * slots ≤ length (now live) ⌝ }
-    ensures { λ r. ⌜ ((dev : Dev) (bus : ℕ) (entry : Slot) (defaults : List ℕ) (at : ℕ) (cells : List ℕ) → slotRun slots kind bus entry defaults at (variants.HardwareSet slot word mask) (seat dev status (now (live .entry)) cells) ≡ record { after = seat dev status (now (live .exit)) cells; reply = r }) ⌝ }
+    ensures { λ r. ⌜ ((dev : Dev) (bus : ℕ) (entry : Slot) (defaults : List ℕ) (at : ℕ) (cells : List ℕ)
+        → slotRun slots kind bus entry defaults at (variants.HardwareSet slot word mask) (seat dev status (now (live .entry)) cells) ≡ record { after = seat dev status (now (live .exit)) cells; reply = r }) ⌝ }
 {
     if slots <= slot {
         return plain_reply(Completion::NoSlot, 0);

@@ -12,7 +12,7 @@ use Rattle.readiness.specs.declared.Setup.{Setup}
 use Rattle.records.proofs.Kept.{keeps-itself}
 use Rattle.demand3.specs.Held.{Held, stateOf, carriedOf}
 use Rattle.demand3.specs.Feeding.{bench}
-use Rattle.demand3.proofs.Refusals.{Fits}
+use Rattle.demand3.specs.GivenForNo.{Fits}
 use Rattle.demand3.proofs.Numbers.{sound-says, set-up-facts}
 use Rattle.demand3.proofs.StateKept.{accepted-state, accepted-setup}
 use Rattle.demand3.proofs.Good.{Good}

@@ -12,7 +12,8 @@ use borrow.Author.Tests.{ltb-true}
 use Rattle.bits.proofs.Tests.{both-right}
 use Rattle.trace.specs.Format.{Bytes, known, body, longest, begun, next}
 use Rattle.trace.specs.Bench.{Ran}
-use Rattle.trace.specs.Feed.{kindAt, feedOpen, wholeSize}
+use Rattle.trace.specs.Feed.{kindAt, feedOpen}
+use Rattle.trace.specs.inner.Gathered.{wholeSize}
 use Rattle.trace.specs.Lent.{Left, refusalOr31}
 use Rattle.trace.proofs.Records.{carrying, length-whole}
 use Rattle.trace.proofs.Refusing.{refusal-accepted, goes-on, feeds-open}

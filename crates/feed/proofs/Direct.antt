@@ -37,7 +37,7 @@ use Rattle.records.proofs.SoundFacts.{owed-test}
 use Rattle.records.proofs.Parted.{run-card}
 use Rattle.records.specs.Sound.{Sound, Fitting}
 use Rattle.feed.specs.inner.Turns.{Turned}
-use Rattle.feed.proofs.Running.{Runs, slot-runs, port-runs}
+use Rattle.feed.proofs.Parts.{Runs, slot-runs, port-runs}
 
 -- ---- moments before which no slot becomes Ready
 -- the first moment is one

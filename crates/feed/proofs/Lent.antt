@@ -14,6 +14,7 @@ use Rattle.records.specs.declared.Port.{Port}
 use Rattle.feed.specs.declared.FedPort.{FedPort}
 use Rattle.demand3.specs.Held.{Held, held, lentOf}
 use Rattle.demand3.specs.Feeding.{feeds}
+use Rattle.set_up.specs.Lent.{heldIn}
 use Rattle.feed.specs.Left.{leftInPlace}
 use Rattle.set_up.proofs.Lent.{lent-take}
 
@@ -30,7 +31,7 @@ numbers-lent n l m e =
 -- a call that changes the lent numbers in place is a call on the lent statuses
 pub in-place-lent : (setup : Setup) (defaults : List ℕ) (n k : ℕ) (phases : List ℕ) (port : Port) (live cells input answers : List ℕ) (r : FedPort) (lent′ after live′ cells′ answers′ : List ℕ)
     → k ≡ 3 * n → k ≤ length phases → length lent′ ≡ k
-    → leftInPlace r lent′ live′ cells′ answers′ ≡ feeds setup defaults (held port (statusesIn (take k phases)) live cells) input answers
+    → leftInPlace r lent′ live′ cells′ answers′ ≡ feeds setup defaults (heldIn port (take k phases) live cells) input answers
     → _≡_ {A = Left Held}
     (record { number = r .number; consumed = r .consumed; written = r .written; held = held (r .port) (lentOf n (statusesIn (lent′ ++ after))) live′ cells′; answers = answers′ })
     (feeds setup defaults (held port (lentOf n (statusesIn phases)) live cells) input answers)

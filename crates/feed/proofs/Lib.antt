@@ -1,5 +1,5 @@
 pub mod Lent
-pub mod Running
+pub mod Parts
 pub mod Accepting
 pub mod Looping
 pub mod Counts

@@ -7,9 +7,8 @@ use native.Mathlib.Omega.{arith}
 use lib.ListN.{length, take, drop, length-append, length-drop}
 use lib.Seq.{length-take-le}
 use lib.Dec.{eqb}
-use Rattle.bits.proofs.Tests.{split}
 use Rattle.trace.specs.Format.{Bytes, pad, longest, begun, next}
-use Rattle.trace.specs.Feed.{wholeSize, endNumber, endCount}
+use Rattle.trace.specs.inner.Gathered.{wholeSize, endNumber, endCount}
 use Rattle.trace.specs.Lent.{Left, refusalOr31}
 use Rattle.trace.proofs.Loop.{Got, got-bytes, got-size, got-count, Ends, Found, by-gather, Inv, begins, turns, finish}
 use Rattle.readiness.specs.declared.Status.{Status}
@@ -22,12 +21,12 @@ use Rattle.records.specs.Answer.{answerBytes}
 use Rattle.records.specs.Run.{run}
 use Rattle.demand3.specs.Held.{Held, held, opened, stateOf, carriedOf}
 use Rattle.decode.proofs.Whole.{decode-alone}
-use Rattle.feed.specs.Left.{carriesOn}
+use Rattle.feed.specs.inner.Calls.{carriesOn}
 use Rattle.feed.specs.inner.Turns.{TakesTurn}
 use Rattle.records.specs.Device.{device}
 use Rattle.demand3.specs.Feeding.{bench, feeds}
 use Rattle.demand3.proofs.Good.{Good, good-keeps}
-use Rattle.feed.proofs.Running.{ran-bytes}
+use Rattle.feed.proofs.Parts.{ran-bytes}
 
 -- ---- the loop
 -- the call began in the state s₀, with the first len of `carried` carried; `room` is the slice for answers as it was lent

@@ -1,22 +1,26 @@
 -- A call that runs no record, and what a call with a record can rely on.
-use Prim.Native.Nat.{ℕ, zero, suc, _+_, _-_, _<_}
+use Prim.Native.Nat.{ℕ, zero, suc, _+_, _-_, _≤_, _<_}
 use native.Mathlib.Omega.{arith}
 use native.Mathlib.Nat.{sub-zero}
 use mathlib.Core.Path.{_≡_, refl, sym, ap, _∙_}
 use mathlib.Core.List.{List, _++_}
-use lib.ListN.{length, take}
+use lib.ListN.{length, getD, take}
+use mir.Syntax.{w8}
+use mir.Val.{Fits}
 use lib.Dec.{eqb}
 use Rattle.trace.specs.Format.{Bytes, pad, next}
-use Rattle.trace.specs.Feed.{wholeSize, endNumber, endCount}
+use Rattle.trace.specs.inner.Gathered.{wholeSize, endNumber, endCount}
 use Rattle.trace.specs.Lent.{Left, refusalOr31}
+use Rattle.bits.proofs.Bytes.{bytes-of, bytes-take}
 use Rattle.trace.proofs.Refusing.{goes-on, feeds-no}
 use Rattle.trace.proofs.Rejoin.{same-view}
 use Rattle.readiness.specs.declared.Setup.{Setup}
+use Rattle.records.specs.declared.Port.{Port}
 use Rattle.demand3.specs.Held.{Held, held, opened, stateOf, carriedOf}
 use Rattle.demand3.specs.Feeding.{bench, feeds}
 use Rattle.feed.specs.declared.Opening.{Opening}
 use Rattle.feed.specs.declared.FedPort.{FedPort}
-use Rattle.feed.specs.Left.{carriesOn, Opens, Rests}
+use Rattle.feed.specs.inner.Calls.{NotRefused, Completes, carriesOn, Opens, Rests}
 use Rattle.feed.proofs.Accepting.{Accepted, accepted}
 use Rattle.feed.proofs.Looping.{starts, ends, ended}
 use Rattle.feed.proofs.Carried.{open-accepted}
@@ -28,6 +32,14 @@ pub record Typed (setup : Setup) (h : Held) (input : List ℕ) : Type 0 where
   pub sixteen : length (h .port .carried) ≡ 16
   pub carried : Bytes (carriedOf (h .port))
   pub fed : Bytes input
+
+-- the carried bytes are bytes
+pub carried-bytes : (p : Port) → ((i : ℕ) → Fits w8 (getD (p .carried) i 0)) → Bytes (carriedOf p)
+carried-bytes p f = bytes-take (p .«carried_len») (p .carried) (bytes-of (p .carried) (λ i h. f i .fits))
+
+pub typed : (setup : Setup) (h : Held) (input : List ℕ) → setup .bus < 256 → setup .«port_id» < 65536 → length (h .port .carried) ≡ 16 → ((i : ℕ) → Fits w8 (getD (h .port .carried) i 0)) → Bytes input
+    → Typed setup h input
+typed setup h input b p n f i = record { bus = b; portId = p; sixteen = n; carried = carried-bytes (h .port) f; fed = i }
 
 module _ (setup : Setup) (defaults : List ℕ) (h : Held) (input room : List ℕ) where
   -- what a call leaves, with a port and the lent memory as it was
@@ -68,6 +80,14 @@ module _ (setup : Setup) (defaults : List ℕ) (h : Held) (input room : List ℕ
       by (suc n) e =
           let f : o .number ≡ 0 → ⊥ = λ z. absurd (omega (arith, e, z)) in
           ap leaves (x .refused f) ∙ feeds-no (bench setup defaults) h input room (o .number) (p .number) f
+
+  -- one that isn't refused carries at most 16 bytes
+  pub carries-few : Typed setup h input → (o : Opening) → Opens setup defaults h input (length room) o → o .number ≡ 0 → h .port .«carried_len» ≤ 16
+  carries-few t o p z = accepted setup defaults h (sym (p .number) ∙ z) (t .bus) (t .portId) .short
+
+  -- A CALL THAT COMPLETES A RECORD is not refused
+  pub runs-some : (o : Opening) → Opens setup defaults h input (length room) o → 0 < o .size → NotRefused setup defaults h × Completes (h .port) input (length room) (o .size)
+  runs-some o p s = (sym (p .number) ∙ p .some s, (s, p .first (p .some s)))
 
   -- with nothing carried, a call is one on a port that says so
   module _ (e : refusalOr31 (bench setup defaults) h ≡ 0) (a : Accepted setup defaults h) (none : h .port .«carried_len» ≡ 0) where

@@ -21,9 +21,10 @@ ghost use Rattle.records.specs.declared.Part.the-variants.{PortAlone, WholeCard
 ghost use Rattle.records.specs.State.{state};
 ghost use Rattle.records.specs.Answer.{answerBytes};
 ghost use Rattle.records.specs.inner.Parts.{partOf};
+ghost use Rattle.execute.specs.inner.Lent.{stateIn};
 ghost use Rattle.feed.specs.inner.Turns.{TakesTurn};
 use crate::choosing::lowered;
-use decode::gathering::put;
+use decode::gathering::put_answer;
 use execute::answering::answer_bytes;
 use execute::card::advance_alone;
 use execute::card::run_card;
@@ -56,7 +57,7 @@ fn answer(answers: &mut [u8], at: usize, reply: Reply)
     requires { ⌜ at + 8 ≤ length (now answers) ⌝ }
     ensures { λ _. ⌜ now (answers .exit) ≡ paste (now (answers .entry)) at (answerBytes reply) 8 ⌝ }
 {
-    put(answers, at, answer_bytes(reply));
+    put_answer(answers, at, answer_bytes(reply));
 }
 
 // A configuration read of a slot of the card.
@@ -72,8 +73,8 @@ pub fn read_turn(
 )
     requires { ⌜ (q .slot < length (statusesIn (now phases))) × (64 * slots ≤ length (now live)) × (at + 8 ≤ length (now answers)) ⌝ }
     ensures { λ _. ⌜ ((setup : Setup) (defaults cells : List ℕ) → setup .slots ≡ slots → entryOf setup (q .slot) ≡ entry → q .slot < slots
-        → TakesTurn setup defaults (state dev (statusesIn (now (phases .entry))) (now (live .entry)) cells) (variants.Read q) (now (answers .entry)) at
-        (state dev (statusesIn (now (phases .entry))) (now (live .entry)) cells) (now (answers .exit))) ⌝ }
+        → TakesTurn setup defaults (stateIn dev (now (phases .entry)) (now (live .entry)) cells) (variants.Read q) (now (answers .entry)) at
+        (stateIn dev (now (phases .entry)) (now (live .entry)) cells) (now (answers .exit))) ⌝ }
 {
     let slot = q.slot;
     let status = status_at(phases, slot);
@@ -101,8 +102,8 @@ pub fn write_turn(
     requires { ⌜ now table ≡ masks ⌝ }
     requires { ⌜ (q .slot < 32) × (q .slot < length (statusesIn (now phases))) × (64 * slots ≤ length (now live)) × (64 * slots ≤ length (now defaults)) × (at + 8 ≤ length (now answers)) ⌝ }
     ensures { λ r. ⌜ ((setup : Setup) → setup .slots ≡ slots → setup .bus ≡ bus → entryOf setup (q .slot) ≡ entry → q .slot < slots
-        → TakesTurn setup (now (defaults .entry)) (state dev (statusesIn (now (phases .entry))) (now (live .entry)) (now (cells .entry))) (variants.Write q value) (now (answers .entry)) at
-        (state (r .dev) (statusesIn (now (phases .exit))) (now (live .exit)) (now (cells .exit))) (now (answers .exit))) ⌝ }
+        → TakesTurn setup (now (defaults .entry)) (stateIn dev (now (phases .entry)) (now (live .entry)) (now (cells .entry))) (variants.Write q value) (now (answers .entry)) at
+        (stateIn (r .dev) (now (phases .exit)) (now (live .exit)) (now (cells .exit))) (now (answers .exit))) ⌝ }
     ensures { λ r. ⌜ (ReadyFrom earliest (statusesIn (now (phases .entry))) → ReadyFrom (r .earliest) (statusesIn (now (phases .exit)))) ⌝ }
 {
     let slot = q.slot;
@@ -149,8 +150,8 @@ pub fn hardware_turn(
     requires { ⌜ now table ≡ masks ⌝ }
     requires { ⌜ (slot < length (statusesIn (now phases))) × (64 * slots ≤ length (now live)) × (at + 8 ≤ length (now answers)) ⌝ }
     ensures { λ _. ⌜ ((setup : Setup) (defaults : List ℕ) (dev : Dev) (cells : List ℕ) → setup .slots ≡ slots → entryOf setup slot ≡ entry → slot < slots
-        → TakesTurn setup defaults (state dev (statusesIn (now (phases .entry))) (now (live .entry)) cells) (variants.HardwareSet slot word mask) (now (answers .entry)) at
-        (state dev (statusesIn (now (phases .entry))) (now (live .exit)) cells) (now (answers .exit))) ⌝ }
+        → TakesTurn setup defaults (stateIn dev (now (phases .entry)) (now (live .entry)) cells) (variants.HardwareSet slot word mask) (now (answers .entry)) at
+        (stateIn dev (now (phases .entry)) (now (live .exit)) cells) (now (answers .exit))) ⌝ }
 {
     let status = status_at(phases, slot);
     let kind = kind_of_entry(entry);
@@ -223,8 +224,8 @@ pub fn card_turn(
     requires { ⌜ now table ≡ masks ⌝ }
     requires { ⌜ (setup .slots ≤ 32) × (length (statusesIn (now phases)) ≡ setup .slots) × (length (now live) ≤ setup .slots * 64) × (at + 8 ≤ length (now answers)) ⌝ }
     ensures { λ r. ⌜ (partOf setup «record» ≡ WholeCard
-        → TakesTurn setup (now (defaults .entry)) (state dev (statusesIn (now (phases .entry))) (now (live .entry)) (now (cells .entry))) «record» (now (answers .entry)) at
-        (state (r .dev) (statusesIn (now (phases .exit))) (now (live .exit)) (now (cells .exit))) (now (answers .exit))) ⌝ }
+        → TakesTurn setup (now (defaults .entry)) (stateIn dev (now (phases .entry)) (now (live .entry)) (now (cells .entry))) «record» (now (answers .entry)) at
+        (stateIn (r .dev) (now (phases .exit)) (now (live .exit)) (now (cells .exit))) (now (answers .exit))) ⌝ }
     ensures { λ r. ⌜ ReadyFrom (r .earliest) (statusesIn (now (phases .exit))) ⌝ }
 {
     let x = run_card(

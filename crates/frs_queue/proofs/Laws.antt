@@ -86,17 +86,6 @@ arrives-appends enabled frs r =
     (λ h. rw (lt-ltb _ _ h) (queues-appends enabled frs r h))
     (λ h. rw (le-ltb _ _ h) (drops-leaves enabled r))
 
--- It changes no cell but the one behind the newest message, and none where the message is dropped.
-pub arrives-other-cells : (enabled : Bool) (frs : Frs) (r : Ring) (i : ℕ) → i ≢ placeOf (length (r .cells)) (r .queue .start) (r .queue .depth)
-    → getD (arrives enabled frs r .cells) i 0 ≡ getD (r .cells) i 0
-unfolding queues drops
-arrives-other-cells enabled frs r i n =
-    by-arrival (λ x. getD (x .cells) i 0 ≡ getD (r .cells) i 0) enabled frs r (λ h. getD-set-other (r .cells) _ i (cellOf frs) 0 n) (λ h. refl)
-
-pub arrives-full-cells : (enabled : Bool) (frs : Frs) (r : Ring) → length (r .cells) ≤ r .queue .depth → arrives enabled frs r .cells ≡ r .cells
-unfolding drops
-arrives-full-cells enabled frs r h = ap (λ (x : Ring). x .cells) (arrives-drops enabled frs r h)
-
 -- There are as many cells as before, the oldest message lies where it lay, and the depth stays within the cells.
 pub arrives-length : (enabled : Bool) (frs : Frs) (r : Ring) → length (arrives enabled frs r .cells) ≡ length (r .cells)
 unfolding queues drops
@@ -116,6 +105,11 @@ pub arriveAll-append : (enabled : Bool) (first others : List Frs) (r : Ring) →
 unfolding arriveAll
 arriveAll-append enabled [] others r = refl
 arriveAll-append enabled (frs ∷ more) others r = arriveAll-append enabled more others (arrives enabled frs r)
+
+pub arriveAll-length : (enabled : Bool) (messages : List Frs) (r : Ring) → length (arriveAll enabled messages r .cells) ≡ length (r .cells)
+unfolding arriveAll
+arriveAll-length enabled [] r = refl
+arriveAll-length enabled (frs ∷ more) r = arriveAll-length enabled more _ ∙ arrives-length enabled frs r
 
 -- ---- removing and emptying
 
@@ -172,12 +166,6 @@ removed-received n q = by-removal (λ x. x .received ≡ q .received) n q refl r
 pub removed-overflow : (n : ℕ) (q : Queue) → removed n q .overflow ≡ q .overflow
 removed-overflow n q = by-removal (λ x. x .overflow ≡ q .overflow) n q refl refl
 
-pub emptied-received : (q : Queue) → emptied q .received ≡ q .received
-emptied-received q = refl
-
-pub emptied-overflow : (q : Queue) → emptied q .overflow ≡ q .overflow
-emptied-overflow q = refl
-
 -- ---- the register
 
 -- the length of a list · 2^20 plus its head, or 0
@@ -221,19 +209,6 @@ alike-register {a} {b} {q} h = by (q .depth) refl
     by : (d : ℕ) → q .depth ≡ d → registerOf a q ≡ registerOf b q
     by zero e = rw (eq-eqb (q .depth) 0 e)
     by (suc d) e = rw (h .same 0 (omega arith), h .size)
-
--- nor to what removing and emptying leave
-pub alike-removed : {a b : List ℕ} {q : Queue} → Alike a b q → Alike a b (removed (length a) q)
-alike-removed {a} {b} {q} h = by-removal (Alike a b) (length a) q h (record { size = h .size; same = next })
-  where
-    next : (k : ℕ) → k < q .depth - 1
-        → getD a (placeOf (length a) (placeOf (length a) (q .start) 1) k) 0 ≡ getD b (placeOf (length b) (placeOf (length a) (q .start) 1) k) 0
-    next k l =
-        ap (λ (i : ℕ). getD a i 0) (place-moved (length a) (q .start) k) ∙ h .same (suc k) (omega arith)
-        ∙ sym (ap (λ (n : ℕ). getD b (placeOf (length b) (placeOf n (q .start) 1) k) 0) (h .size) ∙ ap (λ (i : ℕ). getD b i 0) (place-moved (length b) (q .start) k))
-
-pub alike-emptied : {a b : List ℕ} {q : Queue} → Alike a b q → Alike a b (emptied q)
-alike-emptied h = record { size = h .size; same = λ k l. absurd (omega arith) }
 
 pub alike-put : {a b : List ℕ} {q : Queue} (v : ℕ) (received : Bool) → q .depth < length a → Alike a b q
     → Alike (put a q v) (put b q v) (record { start = q .start; depth = q .depth + 1; received = received; overflow = q .overflow })

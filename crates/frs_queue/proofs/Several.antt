@@ -12,8 +12,8 @@ use Rattle.bits.proofs.Tests.{truth}
 use Rattle.frs_queue.specs.declared.Frs.{Frs}
 use Rattle.frs_queue.specs.declared.Queue.{Queue}
 use Rattle.frs_queue.specs.declared.Tally.{Tally}
-use Rattle.frs_queue.specs.Queue.{Ring, noTally, counted, after, cellOf, placeOf, queues, drops, arrives, arriveAll, messagesOf}
-use Rattle.frs_queue.proofs.Tallies.{counted-min, Shown, plus-none-right, arriveAll-after}
+use Rattle.frs_queue.specs.Queue.{Ring, noTally, counted, cellOf, placeOf, queues, drops, arrives, arriveAll, messagesOf}
+use Rattle.frs_queue.proofs.Tallies.{counted-min, Shown, plus-none-right, after, arriveAll-after}
 use Rattle.frs_queue.proofs.Laws.{arrives-queues, arrives-drops, queues-appends}
 
 -- a record's first message finds nothing brought

@@ -10,7 +10,7 @@ use borrow.Author.Tests.{leb-true, leb-false}
 use Rattle.bits.proofs.Choices.{through}
 use Rattle.frs_queue.specs.declared.Frs.{Frs}
 use Rattle.frs_queue.specs.declared.Tally.{Tally}
-use Rattle.frs_queue.specs.Queue.{Ring, noTally, counted, plusTally, after, queues, drops, arrives, arriveAll}
+use Rattle.frs_queue.specs.Queue.{Ring, noTally, counted, plusTally, queues, drops, arrives, arriveAll}
 
 -- a count is the sum, or 255 where the sum is more
 pub counted-min : (a b : ℕ) → counted a b ≡ min (a + b) 255
@@ -38,22 +38,15 @@ pub record Shown (t : Tally) : Type 0 where
   pub queued : t .queued ≤ 255
   pub dropped : t .dropped ≤ 255
 
-none-before : (a : ℕ) → a ≤ 255 → counted 0 a ≡ a
-none-before a h = omega (arith, counted-min 0 a)
-
 none-after : (a : ℕ) → a ≤ 255 → counted a 0 ≡ a
 none-after a h = omega (arith, counted-min a 0)
-
--- nothing before, or nothing after, changes nothing
-pub plus-none-left : (t : Tally) → Shown t → plusTally noTally t ≡ t
-plus-none-left t h = simp (none-before (t .queued) (h .queued), none-before (t .dropped) (h .dropped))
 
 pub plus-none-right : (t : Tally) → Shown t → plusTally t noTally ≡ t
 plus-none-right t h = simp (none-after (t .queued) (h .queued), none-after (t .dropped) (h .dropped), or-false)
 
--- tallies may be taken together in any grouping
-pub plus-assoc : (a b c : Tally) → plusTally (plusTally a b) c ≡ plusTally a (plusTally b c)
-plus-assoc a b c = simp (counted-assoc, or-assoc)
+-- the same ring, where e was brought before
+abbrev pub after : Tally → Ring → Ring
+after e r = record { cells = r .cells; queue = r .queue; tally = plusTally e (r .tally) }
 
 queues-after : (e : Tally) (enabled : Bool) (frs : Frs) (r : Ring) → queues enabled frs (after e r) ≡ after e (queues enabled frs r)
 unfolding queues

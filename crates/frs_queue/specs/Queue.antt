@@ -38,12 +38,8 @@ plusTally e t =
       dropped = counted (e .dropped) (t .dropped);
     }
 
--- the same ring, where e was brought before
-abbrev pub after : Tally → Ring → Ring
-after e r = record { cells = r .cells; queue = r .queue; tally = plusTally e (r .tally) }
-
--- an interrupt is raised when a bit goes from 0 to 1 with the interrupt enabled
-abbrev pub rises : Bool → Bool → Bool → Bool
+-- an interrupt is raised when a bit, given as it was before, goes from 0 to 1 with the interrupt enabled; `already`: it was raised earlier in this record
+abbrev pub rises : (already enabled bit : Bool) → Bool
 rises already enabled bit = already || (enabled && not bit)
 
 -- cells are a ring: the cell of the message that stands k places behind the oldest

@@ -14,11 +14,10 @@ use Rattle.records.specs.declared.Port.{Port}
 use Rattle.demand3.specs.Held.{Held, held, lentOf}
 use Rattle.demand3.specs.Refusals.{setUpRefusal}
 use Rattle.demand3.specs.SettingUp.{Prepared, setsUp}
-use Rattle.demand3.specs.Feeding.{bench, feeds}
-use Rattle.demand3.specs.Claim.{refusalOf}
+use Rattle.demand3.specs.Feeding.{bench, refusalOf, feeds}
 use Rattle.set_up.proofs.Lent.{length-lent}
 use Rattle.demand3.proofs.Prepared.{set-up-number, set-up-refused}
-use Rattle.lent_statuses.specs.inner.Statuses.{storedOver}
+use Rattle.lent_statuses.specs.Statuses.{storedOver}
 use Rattle.lent_calls.specs.Chain.{LentCall, leftBy, WasSetUp}
 use Rattle.bits.proofs.Numbers.{by-le}
 use Rattle.bench.proofs.Padding.{given-few, stored-few, stored-many, set-up-many, fed-many}

@@ -1,16 +1,15 @@
--- DEMAND 3 FOR THE LENT ENTRIES: over what is lent in and what is there at exit, chained over a list of calls (01, "One trace").
+-- Calls that were made one after the other on the same lent memory, each known by its contract.
 use Prim.Native.Nat.{ℕ}
 use mathlib.Core.Path.{_≡_}
 use mathlib.Core.List.{List, [], _∷_}
 use Rattle.trace.specs.Lent.{Left}
-use Rattle.trace.specs.Calls.{Call, Came, BytesIn, noCall, before}
+use Rattle.trace.specs.Calls.{Call, Came, noCall, before}
 use Rattle.readiness.specs.declared.Status.{Status}
 use Rattle.readiness.specs.declared.Setup.{Setup}
 use Rattle.records.specs.declared.Port.{Port}
 use Rattle.demand3.specs.Held.{Held, held}
 use Rattle.demand3.specs.SettingUp.{setsUp}
 use Rattle.demand3.specs.Feeding.{feeds}
-use Rattle.demand3.specs.Claim.{Start, FromStart, Claim, TwoAdvances}
 use Rattle.bench.specs.declared.Outcome.{Outcome}
 use Rattle.bench.specs.Entries.{leftBySetUp, leftByFeed}
 
@@ -49,16 +48,3 @@ module _ (setup : Setup) (defaults : List ℕ) where
   -- set-up was called on h: its contract holds
   abbrev pub WasSetUp : Held → (number : ℕ) → Port → List Status → (live cells : List ℕ) → Type 0
   WasSetUp h number port statuses live cells = leftBySetUp number port statuses live cells ≡ setsUp setup defaults h
-
--- DEMAND 3, (a) to (i), of calls on lent memory h
-pub record LentDemand3 (setup : Setup) (defaults : List ℕ) (h : Held) : Type 0 where
-  -- (a) to (e), (g), (h): every list of calls is one trace on the plain bench
-  pub lists : (cs : List LentCall) → BytesIn (allLentTo cs) → Chained setup defaults h cs → Claim setup defaults h (allLentTo cs) (cameTo h cs)
-  -- (f): a set-up that isn't refused leaves a sound port, unbroken, nothing carried; and every list of calls after it is one trace
-  pub start : (port : Port) (statuses : List Status) (live cells : List ℕ) → WasSetUp setup defaults h 0 port statuses live cells
-      → Start setup defaults (held port statuses live cells)
-  pub fromSetUp : (port : Port) (statuses : List Status) (live cells : List ℕ) → WasSetUp setup defaults h 0 port statuses live cells
-      → (cs : List LentCall) → BytesIn (allLentTo cs) → Chained setup defaults (held port statuses live cells) cs
-      → FromStart setup defaults (held port statuses live cells) (cameTo (held port statuses live cells) cs)
-  -- (i): two advances are one
-  pub advances : TwoAdvances setup defaults h

@@ -1,6 +1,6 @@
 -- The lists that `load` and `store` make, one element a turn.
 use Prim.Native.Nat.{ℕ, _+_, _-_, _<_, _≤_, min}
-use mathlib.Core.Path.{_≡_, refl, ap, sym, _∙_}
+use mathlib.Core.Path.{_≡_, ap, sym, _∙_}
 use mathlib.Core.List.{List, _++_}
 use native.Mathlib.Omega.{arith}
 use lib.ListN.{length, getD, set, take, drop, replicate, length-take, drop-of-length-le}
@@ -10,7 +10,7 @@ use Rattle.bits.proofs.Lists.{take-min, padded-more, front-more}
 use Rattle.readiness.specs.declared.Status.{Status}
 use Rattle.readiness.specs.Status.{ready}
 use Rattle.demand3.specs.Held.{lentOf}
-use Rattle.lent_statuses.specs.inner.Statuses.{storedOver}
+use Rattle.lent_statuses.specs.Statuses.{storedOver}
 
 -- the first i, and Ready past them
 abbrev pub padTo : List Status → ℕ → List Status

@@ -1,11 +1,10 @@
 -- Copies in and out, computed.
 use mathlib.Core.Path.{_≡_, refl}
-use mathlib.Core.List.{List, [], _∷_, _++_}
-use lib.ListN.{length, getD, set, replicate}
-use Rattle.readiness.specs.declared.Status.{Status}
+use mathlib.Core.List.{[], _∷_, _++_}
+use lib.ListN.{getD, set, replicate}
 use Rattle.readiness.specs.Status.{ready, down}
 use Rattle.demand3.specs.Held.{lentOf}
-use Rattle.lent_statuses.specs.inner.Statuses.{storedOver}
+use Rattle.lent_statuses.specs.Statuses.{storedOver}
 
 -- one status is lent: it is copied, and 31 are Ready
 one-in : lentOf 32 (down ∷ []) ≡ down ∷ replicate 31 ready

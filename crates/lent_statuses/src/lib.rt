@@ -1,10 +1,10 @@
 // Slot statuses as they are lent: read, replaced, copied in and out.
 ghost use mathlib.Core.Path.{_≡_};
 ghost use Prim.Native.Nat.{_<_};
-ghost use lib.ListN.{length, getD, set, replicate};
+ghost use lib.ListN.{getD, set, replicate};
 ghost use Rattle.readiness.specs.Status.{ready, down};
 ghost use Rattle.demand3.specs.Held.{lentOf};
-ghost use Rattle.lent_statuses.specs.inner.Statuses.{storedOver};
+ghost use Rattle.lent_statuses.specs.Statuses.{storedOver};
 use bits::at_most;
 use readiness::Phase;
 use readiness::Status;
@@ -44,7 +44,7 @@ fn all_ready() -> [Status; 32]
     }; 32]
 }
 
-fn put(array: [Status; 32], slot: usize, status: Status) -> [Status; 32]
+fn with_status(array: [Status; 32], slot: usize, status: Status) -> [Status; 32]
     requires { ⌜ slot < 32 ⌝ }
     ensures { λ r. ⌜ r ≡ set array slot status ⌝ }
 {
@@ -69,7 +69,7 @@ pub fn load(statuses: &[Status]) -> [Status; 32]
     let mut array = all_ready();
     let mut i: usize = 0;
     while i < n {
-        array = put(array, i, status_at(statuses, i, past));
+        array = with_status(array, i, status_at(statuses, i, past));
         i += 1;
     }
     array

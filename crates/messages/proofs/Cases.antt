@@ -2,7 +2,7 @@
 use mathlib.Core.Path.{_≡_}
 use mathlib.Core.Bool.{true, _&&_, cond, and-eq-true-iff}
 use mathlib.Core.List.{List}
-use Prim.Native.Nat.{ℕ, _+_, _*_, _/_, _%_, _<_}
+use Prim.Native.Nat.{ℕ, _+_, _*_, _/_, _%_}
 use native.Mathlib.Nat.{div-add-mod', mod-eq-of-lt}
 use native.Mathlib.Omega.{arith}
 use borrow.Author.Tests.{eqb-true}
@@ -11,7 +11,9 @@ use lib.Dec.{eqb}
 use Rattle.bits.proofs.Tests.{split}
 use Rattle.messages.specs.declared.Message.{Message}
 use Rattle.messages.specs.declared.Message.the-variants.{Drs, Frs, NotReadiness}
-use Rattle.messages.specs.Messages.{Bytes, byteAt, drs, frs, subtypeOf, trafficClass, requesterId, frsReason, layout, frsAllowed, frsWith, readMessage, reading, readingOf, writable, canonical, left, stored, written, listedOnly}
+use Rattle.bits.specs.Bytes.{Bytes, byteAt}
+use Rattle.bits.proofs.Bytes.{byte-at}
+use Rattle.messages.specs.Messages.{drs, frs, subtypeOf, trafficClass, requesterId, frsReason, layout, frsAllowed, frsRead, readMessage, reading, readingOf, writable, canonical, left, stored, written, listedOnly}
 use Rattle.messages.proofs.Laid.{Laid, laid, allowed-small}
 
 -- A reading is one of three: what holds of each holds of the reading.
@@ -20,7 +22,7 @@ pub cases : (P : Message → Type 0) (m : List ℕ)
     → (Laid frs m → frsAllowed (frsReason m) ≡ true → P (Frs (requesterId m) (frsReason m)))
     → P NotReadiness
     → P (readMessage m)
-unfolding readMessage frsWith
+unfolding readMessage frsRead
 cases P m d f n =
     split (layout drs m) (λ t. simp t (d (laid drs m t)))
     (λ q. simp q
@@ -41,7 +43,7 @@ outcomes kind id reason room f g =
 
 -- The 16 bytes that are written of a kind, an ID and a reason read back as these.
 pub canonical-reads : (kind id reason : ℕ) → writable kind reason ≡ true → readingOf (readMessage (canonical kind id reason)) ≡ reading 0 kind id reason
-unfolding writable canonical readMessage layout subtypeOf frsWith
+unfolding writable canonical readMessage layout subtypeOf frsRead
 canonical-reads kind id reason w =
     let i : id / 256 * 256 + id % 256 ≡ id = div-add-mod' id 256 in
     split (eqb kind drs)
@@ -61,7 +63,7 @@ pub canonical-listed : (kind reason : ℕ) (m : List ℕ) → Bytes m → Laid k
     → canonical kind (requesterId m) reason ≡ listedOnly m
 unfolding canonical listedOnly
 canonical-listed kind reason m b l e =
-    let h : requesterId m / 256 ≡ byteAt m 4 = omega (arith, b 5) in
-    let low : requesterId m % 256 ≡ byteAt m 5 = omega (arith, b 5) in
+    let h : requesterId m / 256 ≡ byteAt m 4 = omega (arith, byte-at m 5 b) in
+    let low : requesterId m % 256 ≡ byteAt m 5 = omega (arith, byte-at m 5 b) in
     let c : trafficClass m * 16 ≡ 0 = omega arith in
     cc

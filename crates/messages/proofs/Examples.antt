@@ -4,93 +4,93 @@ use mathlib.Core.List.{List, [], _∷_}
 use Prim.Native.Nat.{ℕ}
 use lib.ListN.{replicate}
 use Rattle.messages.specs.declared.Message.the-variants.{Drs, Frs, NotReadiness}
-use Rattle.messages.specs.Messages.{subtypeOf, layout, frsAllowed, frsWith, readMessage, reading, readingOf, writable, canonical, left, stored, written}
+use Rattle.messages.specs.Messages.{subtypeOf, layout, frsAllowed, frsRead, readMessage, reading, readingOf, writable, canonical, left, stored, written}
 
 -- a DRS, and an FRS whose function completed an FLR (reason 3), from ID 1234h: the high byte comes first
 a-drs : readMessage (0x34 ∷ 0x00 ∷ 0x00 ∷ 0x00 ∷ 0x12 ∷ 0x34 ∷ 0x00 ∷ 0x7F ∷ 0x00 ∷ 0x00 ∷ 0x00 ∷ 0x01 ∷ 0x08 ∷ 0x00 ∷ 0x00 ∷ 0x00 ∷ []) ≡ Drs 0x1234
-unfolding readMessage layout subtypeOf frsWith frsAllowed
+unfolding readMessage layout subtypeOf frsRead frsAllowed
 a-drs = refl
 
 an-frs : readMessage (0x30 ∷ 0x00 ∷ 0x00 ∷ 0x00 ∷ 0x12 ∷ 0x34 ∷ 0x00 ∷ 0x7F ∷ 0x00 ∷ 0x00 ∷ 0x00 ∷ 0x01 ∷ 0x09 ∷ 0x00 ∷ 0x00 ∷ 0x03 ∷ []) ≡ Frs 0x1234 3
-unfolding readMessage layout subtypeOf frsWith frsAllowed
+unfolding readMessage layout subtypeOf frsRead frsAllowed
 an-frs = refl
 
 -- everything else is ignored: here every bit that isn't listed is 1 (Attr and Tag among them)
 a-drs-in-ones : readMessage (0x34 ∷ 0x8F ∷ 0xFF ∷ 0xFF ∷ 0x12 ∷ 0x34 ∷ 0xFF ∷ 0x7F ∷ 0xFF ∷ 0xFF ∷ 0x00 ∷ 0x01 ∷ 0x08 ∷ 0xFF ∷ 0xFF ∷ 0xFF ∷ []) ≡ Drs 0x1234
-unfolding readMessage layout subtypeOf frsWith frsAllowed
+unfolding readMessage layout subtypeOf frsRead frsAllowed
 a-drs-in-ones = refl
 
 an-frs-in-ones : readMessage (0x30 ∷ 0x8F ∷ 0xFF ∷ 0xFF ∷ 0x12 ∷ 0x34 ∷ 0xFF ∷ 0x7F ∷ 0xFF ∷ 0xFF ∷ 0x00 ∷ 0x01 ∷ 0x09 ∷ 0xFF ∷ 0xFF ∷ 0xF3 ∷ []) ≡ Frs 0x1234 3
-unfolding readMessage layout subtypeOf frsWith frsAllowed
+unfolding readMessage layout subtypeOf frsRead frsAllowed
 an-frs-in-ones = refl
 
 -- any ID and any reason: a DRS with bus 0 is legal, and so are the reasons 0 and 15
 bus-0 : readMessage (0x34 ∷ 0x00 ∷ 0x00 ∷ 0x00 ∷ 0x00 ∷ 0x00 ∷ 0x00 ∷ 0x7F ∷ 0x00 ∷ 0x00 ∷ 0x00 ∷ 0x01 ∷ 0x08 ∷ 0x00 ∷ 0x00 ∷ 0x00 ∷ []) ≡ Drs 0
-unfolding readMessage layout subtypeOf frsWith frsAllowed
+unfolding readMessage layout subtypeOf frsRead frsAllowed
 bus-0 = refl
 
 reason-0 : readMessage (0x30 ∷ 0x00 ∷ 0x00 ∷ 0x00 ∷ 0xFF ∷ 0xFF ∷ 0x00 ∷ 0x7F ∷ 0x00 ∷ 0x00 ∷ 0x00 ∷ 0x01 ∷ 0x09 ∷ 0x00 ∷ 0x00 ∷ 0x00 ∷ []) ≡ Frs 0xFFFF 0
-unfolding readMessage layout subtypeOf frsWith frsAllowed
+unfolding readMessage layout subtypeOf frsRead frsAllowed
 reason-0 = refl
 
 reason-15 : readMessage (0x30 ∷ 0x00 ∷ 0x00 ∷ 0x00 ∷ 0xFF ∷ 0xFF ∷ 0x00 ∷ 0x7F ∷ 0x00 ∷ 0x00 ∷ 0x00 ∷ 0x01 ∷ 0x09 ∷ 0x00 ∷ 0x00 ∷ 0x0F ∷ []) ≡ Frs 0xFFFF 15
-unfolding readMessage layout subtypeOf frsWith frsAllowed
+unfolding readMessage layout subtypeOf frsRead frsAllowed
 reason-15 = refl
 
 -- TC other than 0
 class-1 : readMessage (0x30 ∷ 0x10 ∷ 0x00 ∷ 0x00 ∷ 0x12 ∷ 0x34 ∷ 0x00 ∷ 0x7F ∷ 0x00 ∷ 0x00 ∷ 0x00 ∷ 0x01 ∷ 0x09 ∷ 0x00 ∷ 0x00 ∷ 0x03 ∷ []) ≡ NotReadiness
-unfolding readMessage layout subtypeOf frsWith frsAllowed
+unfolding readMessage layout subtypeOf frsRead frsAllowed
 class-1 = refl
 
 class-2 : readMessage (0x30 ∷ 0x20 ∷ 0x00 ∷ 0x00 ∷ 0x12 ∷ 0x34 ∷ 0x00 ∷ 0x7F ∷ 0x00 ∷ 0x00 ∷ 0x00 ∷ 0x01 ∷ 0x09 ∷ 0x00 ∷ 0x00 ∷ 0x03 ∷ []) ≡ NotReadiness
-unfolding readMessage layout subtypeOf frsWith frsAllowed
+unfolding readMessage layout subtypeOf frsRead frsAllowed
 class-2 = refl
 
 class-4 : readMessage (0x34 ∷ 0x40 ∷ 0x00 ∷ 0x00 ∷ 0x12 ∷ 0x34 ∷ 0x00 ∷ 0x7F ∷ 0x00 ∷ 0x00 ∷ 0x00 ∷ 0x01 ∷ 0x08 ∷ 0x00 ∷ 0x00 ∷ 0x00 ∷ []) ≡ NotReadiness
-unfolding readMessage layout subtypeOf frsWith frsAllowed
+unfolding readMessage layout subtypeOf frsRead frsAllowed
 class-4 = refl
 
 -- bytes 0 and 12 that don't agree
 drs-as-frs : readMessage (0x34 ∷ 0x00 ∷ 0x00 ∷ 0x00 ∷ 0x12 ∷ 0x34 ∷ 0x00 ∷ 0x7F ∷ 0x00 ∷ 0x00 ∷ 0x00 ∷ 0x01 ∷ 0x09 ∷ 0x00 ∷ 0x00 ∷ 0x03 ∷ []) ≡ NotReadiness
-unfolding readMessage layout subtypeOf frsWith frsAllowed
+unfolding readMessage layout subtypeOf frsRead frsAllowed
 drs-as-frs = refl
 
 frs-as-drs : readMessage (0x30 ∷ 0x00 ∷ 0x00 ∷ 0x00 ∷ 0x12 ∷ 0x34 ∷ 0x00 ∷ 0x7F ∷ 0x00 ∷ 0x00 ∷ 0x00 ∷ 0x01 ∷ 0x08 ∷ 0x00 ∷ 0x00 ∷ 0x00 ∷ []) ≡ NotReadiness
-unfolding readMessage layout subtypeOf frsWith frsAllowed
+unfolding readMessage layout subtypeOf frsRead frsAllowed
 frs-as-drs = refl
 
 -- another byte 0, 7, 10, 11 or 12
 byte-0 : readMessage (0x31 ∷ 0x00 ∷ 0x00 ∷ 0x00 ∷ 0x12 ∷ 0x34 ∷ 0x00 ∷ 0x7F ∷ 0x00 ∷ 0x00 ∷ 0x00 ∷ 0x01 ∷ 0x09 ∷ 0x00 ∷ 0x00 ∷ 0x03 ∷ []) ≡ NotReadiness
-unfolding readMessage layout subtypeOf frsWith frsAllowed
+unfolding readMessage layout subtypeOf frsRead frsAllowed
 byte-0 = refl
 
 byte-7 : readMessage (0x30 ∷ 0x00 ∷ 0x00 ∷ 0x00 ∷ 0x12 ∷ 0x34 ∷ 0x00 ∷ 0x7E ∷ 0x00 ∷ 0x00 ∷ 0x00 ∷ 0x01 ∷ 0x09 ∷ 0x00 ∷ 0x00 ∷ 0x03 ∷ []) ≡ NotReadiness
-unfolding readMessage layout subtypeOf frsWith frsAllowed
+unfolding readMessage layout subtypeOf frsRead frsAllowed
 byte-7 = refl
 
 byte-10 : readMessage (0x30 ∷ 0x00 ∷ 0x00 ∷ 0x00 ∷ 0x12 ∷ 0x34 ∷ 0x00 ∷ 0x7F ∷ 0x00 ∷ 0x00 ∷ 0x01 ∷ 0x01 ∷ 0x09 ∷ 0x00 ∷ 0x00 ∷ 0x03 ∷ []) ≡ NotReadiness
-unfolding readMessage layout subtypeOf frsWith frsAllowed
+unfolding readMessage layout subtypeOf frsRead frsAllowed
 byte-10 = refl
 
 byte-11 : readMessage (0x30 ∷ 0x00 ∷ 0x00 ∷ 0x00 ∷ 0x12 ∷ 0x34 ∷ 0x00 ∷ 0x7F ∷ 0x00 ∷ 0x00 ∷ 0x00 ∷ 0x00 ∷ 0x09 ∷ 0x00 ∷ 0x00 ∷ 0x03 ∷ []) ≡ NotReadiness
-unfolding readMessage layout subtypeOf frsWith frsAllowed
+unfolding readMessage layout subtypeOf frsRead frsAllowed
 byte-11 = refl
 
 byte-12 : readMessage (0x30 ∷ 0x00 ∷ 0x00 ∷ 0x00 ∷ 0x12 ∷ 0x34 ∷ 0x00 ∷ 0x7F ∷ 0x00 ∷ 0x00 ∷ 0x00 ∷ 0x01 ∷ 0x0A ∷ 0x00 ∷ 0x00 ∷ 0x03 ∷ []) ≡ NotReadiness
-unfolding readMessage layout subtypeOf frsWith frsAllowed
+unfolding readMessage layout subtypeOf frsRead frsAllowed
 byte-12 = refl
 
 -- another length
 bytes-0 : readMessage [] ≡ NotReadiness
-unfolding readMessage layout subtypeOf frsWith frsAllowed
+unfolding readMessage layout subtypeOf frsRead frsAllowed
 bytes-0 = refl
 
 bytes-15 : readMessage (0x34 ∷ 0x00 ∷ 0x00 ∷ 0x00 ∷ 0x12 ∷ 0x34 ∷ 0x00 ∷ 0x7F ∷ 0x00 ∷ 0x00 ∷ 0x00 ∷ 0x01 ∷ 0x08 ∷ 0x00 ∷ 0x00 ∷ []) ≡ NotReadiness
-unfolding readMessage layout subtypeOf frsWith frsAllowed
+unfolding readMessage layout subtypeOf frsRead frsAllowed
 bytes-15 = refl
 
 bytes-17 : readMessage (0x34 ∷ 0x00 ∷ 0x00 ∷ 0x00 ∷ 0x12 ∷ 0x34 ∷ 0x00 ∷ 0x7F ∷ 0x00 ∷ 0x00 ∷ 0x00 ∷ 0x01 ∷ 0x08 ∷ 0x00 ∷ 0x00 ∷ 0x00 ∷ 0x00 ∷ []) ≡ NotReadiness
-unfolding readMessage layout subtypeOf frsWith frsAllowed
+unfolding readMessage layout subtypeOf frsRead frsAllowed
 bytes-17 = refl
 
 -- a reading's kind, ID and reason (0 for a DRS), or 19

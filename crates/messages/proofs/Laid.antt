@@ -7,7 +7,8 @@ use borrow.Author.Tests.{eqb-true, ltb-true}
 use lib.ListN.{length}
 use lib.Dec.{eqb}
 use Rattle.bits.proofs.Tests.{split, not-both}
-use Rattle.messages.specs.Messages.{byteAt, subtypeOf, trafficClass, layout, frsAllowed}
+use Rattle.bits.specs.Bytes.{byteAt}
+use Rattle.messages.specs.Messages.{subtypeOf, trafficClass, layout, frsAllowed}
 
 -- What the checks say: a message that passes them has the length and the bytes that 01 lists.
 pub record Laid (kind : ℕ) (m : List ℕ) : Type 0 where

@@ -11,8 +11,10 @@ use lib.ListN.{length}
 use lib.Dec.{eqb, ltb}
 use Rattle.bits.proofs.Tests.{split}
 use Rattle.messages.specs.declared.Message.{Message}
-use Rattle.messages.specs.declared.Message.the-variants.{Frs, NotReadiness}
-use Rattle.messages.specs.Messages.{Bytes, byteAt, drs, frs, trafficClass, requesterId, frsReason, layout, frsAllowed, readMessage, reading, readingOf, writable, canonical, Written, left, stored, written, listedOnly}
+use Rattle.messages.specs.declared.Message.the-variants.{NotReadiness}
+use Rattle.bits.specs.Bytes.{Bytes, byteAt}
+use Rattle.bits.proofs.Bytes.{byte-at}
+use Rattle.messages.specs.Messages.{drs, frs, trafficClass, requesterId, frsReason, layout, frsAllowed, readMessage, reading, readingOf, writable, canonical, Written, left, stored, written, listedOnly}
 use Rattle.messages.proofs.Laid.{laid, allowed-small}
 use Rattle.messages.proofs.Cases.{cases, outcomes, canonical-reads, canonical-listed}
 
@@ -50,15 +52,7 @@ read-is-16 m e =
 
 -- The requester ID has 16 bits.
 pub id-bound : (m : List ℕ) → Bytes m → readingOf (readMessage m) .id < 65536
-id-bound m b = cases (λ (r : Message). readingOf r .id < 65536) m (λ l. omega (arith, b 4, b 5)) (λ l a. omega (arith, b 4, b 5)) (omega arith)
-
--- The reason of an FRS is one that it may have.
-pub reason-allowed : (m : List ℕ) (id reason : ℕ) → readMessage m ≡ Frs id reason → frsAllowed reason ≡ true
-reason-allowed m id reason =
-    cases (λ (r : Message). r ≡ Frs id reason → frsAllowed reason ≡ true) m
-    (λ l e. let z : _≡_ {A = ℕ} 0 1 = cc in absurd (omega arith))
-    (λ l a e. let q : reason ≡ frsReason m = cc in ap frsAllowed q ∙ a)
-    (λ e. let z : _≡_ {A = ℕ} 0 1 = cc in absurd (omega arith))
+id-bound m b = cases (λ (r : Message). readingOf r .id < 65536) m (λ l. omega (arith, byte-at m 4 b, byte-at m 5 b)) (λ l a. omega (arith, byte-at m 4 b, byte-at m 5 b)) (omega arith)
 
 -- A reading's reason has four bits.
 pub reason-bound : (m : List ℕ) → readingOf (readMessage m) .reason < 16

@@ -1,19 +1,12 @@
 -- Readiness messages (01, "Messages (16 bytes)"): DRS and FRS.
-use Prim.Native.Nat.{ℕ, _+_, _*_, _/_, _%_, _<_}
+use Prim.Native.Nat.{ℕ, _+_, _*_, _/_, _%_}
 use mathlib.Core.Bool.{Bool, _&&_, cond}
 use mathlib.Core.List.{List, [], _∷_}
-use lib.ListN.{length, getD}
+use lib.ListN.{length}
 use lib.Dec.{eqb, ltb}
+use Rattle.bits.specs.Bytes.{byteAt}
 use Rattle.messages.specs.declared.Message.{Message}
 use Rattle.messages.specs.declared.Message.the-variants.{Drs, Frs, NotReadiness}
-
--- a list of bytes
-abbrev pub Bytes : List ℕ → Type 0
-Bytes m = (i : ℕ) → getD m i 0 < 256
-
--- byte i of a message
-abbrev pub byteAt : List ℕ → ℕ → ℕ
-byteAt m i = getD m i 0
 
 -- byte 0: 34h DRS, 30h FRS
 abbrev pub drs : ℕ
@@ -53,14 +46,14 @@ layout kind m =
 unfoldable pub frsAllowed : ℕ → Bool
 frsAllowed reason = ltb reason 16
 
--- an FRS with its ID and reason
-unfoldable pub frsWith : ℕ → ℕ → Message
-frsWith id reason = cond (frsAllowed reason) (Frs id reason) NotReadiness
+-- an FRS as it is read, with its ID and reason; none where it may not have that reason
+unfoldable pub frsRead : ℕ → ℕ → Message
+frsRead id reason = cond (frsAllowed reason) (Frs id reason) NotReadiness
 
 -- what a message is read as, at every length and content
 unfoldable pub readMessage : List ℕ → Message
 readMessage m =
-    cond (layout drs m) (Drs (requesterId m)) (cond (layout frs m) (frsWith (requesterId m) (frsReason m)) NotReadiness)
+    cond (layout drs m) (Drs (requesterId m)) (cond (layout frs m) (frsRead (requesterId m) (frsReason m)) NotReadiness)
 
 -- what a reading gives: 0 or 19, and then the kind (byte 0), the requester ID and the reason
 pub record Reading : Type 0 where

@@ -1,7 +1,7 @@
 // Readiness messages of 16 bytes: DRS and FRS, read and written.
 ghost use mathlib.Core.Path.{_≡_};
 ghost use lib.ListN.{getD};
-ghost use Rattle.messages.specs.Messages.{trafficClass, requesterId, frsReason, subtypeOf, layout, frsAllowed, frsWith, readMessage, writable, canonical, left, stored, written};
+ghost use Rattle.messages.specs.Messages.{trafficClass, requesterId, frsReason, subtypeOf, layout, frsAllowed, frsRead, readMessage, writable, canonical, left, stored, written};
 use bits::byte_at;
 use bits::u16_of_u8;
 
@@ -75,8 +75,8 @@ pub fn frs_allowed(reason: u8) -> bool
     reason < 16
 }
 
-fn frs_with(id: u16, reason: u8) -> Message
-    ensures { λ r. ⌜ r ≡ frsWith id reason ⌝ }
+fn frs_read(id: u16, reason: u8) -> Message
+    ensures { λ r. ⌜ r ≡ frsRead id reason ⌝ }
 {
     if frs_allowed(reason) {
         Message::Frs(id, reason)
@@ -93,7 +93,7 @@ pub fn read(bytes: &[u8]) -> Message
         return Message::Drs(requester_id(bytes));
     }
     if has_layout(FRS, bytes) {
-        return frs_with(requester_id(bytes), frs_reason(bytes));
+        return frs_read(requester_id(bytes), frs_reason(bytes));
     }
     Message::NotReadiness
 }

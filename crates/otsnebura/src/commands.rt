@@ -1,4 +1,5 @@
 // The commands, by the first argument.
+use crate::answers::overwrites_input;
 use crate::help::help;
 use crate::options::Options;
 use crate::options::is_usable;
@@ -13,8 +14,6 @@ use cli_card::card_file::load_card;
 use cli_card::card_shown::show_card;
 use cli_io::files::close_file;
 use cli_io::files::open_file;
-use cli_io::files::overwrite_file;
-use cli_run::turns::Way;
 use cli_tools::message::message_command;
 use cli_tools::pack::pack;
 use cli_tools::show::show;
@@ -59,47 +58,13 @@ fn card_command() -> Outcome {
 
 // ---- Run
 
-// Progress is for a terminal that shows no lines of records.
-fn shows_progress(quiet: bool) -> bool {
-    let out = libc::isatty(libc::STDOUT_FILENO) == 1;
-    (libc::isatty(libc::STDERR_FILENO) == 1) & (quiet | !out)
-}
-
-fn way_of(o: Options, trace: i32, answers: i32) -> Way {
-    Way {
-        trace: trace,
-        answers: answers,
-        quiet: o.quiet,
-        progress: shows_progress(o.quiet),
-    }
-}
-
-// Runs with the answers' file, or -1 for none.
-fn run_to(card: Loaded, words: &[u32], o: Options, trace: i32, answers: i32) -> Outcome {
-    let setup = card.setup;
-    let outcome = run(setup, card.queue, words, o, way_of(o, trace, answers));
-    close_file(answers);
-    outcome
-}
-
-// Runs with answers to a file where one is named.
-fn run_from(card: Loaded, words: &[u32], o: Options, trace: i32) -> Outcome {
-    if o.answers == 0 {
-        return run_to(card, words, o, trace, -1);
-    }
-    let answers = overwrite_file(o.answers);
-    if answers < 0 {
-        return Outcome::Unusable;
-    }
-    run_to(card, words, o, trace, answers)
-}
-
 fn run_card(card: Loaded, words: &[u32], o: Options) -> Outcome {
     let trace = open_file(o.trace);
     if trace < 0 {
         return Outcome::Unusable;
     }
-    let outcome = run_from(card, words, o, trace);
+    let setup = card.setup;
+    let outcome = run(setup, card.queue, words, o, trace);
     close_file(trace);
     outcome
 }
@@ -108,6 +73,9 @@ fn run_command() -> Outcome {
     let o = options_given();
     if !is_usable(o) {
         return bad_usage(b"run wants CARD and TRACE, and takes --quiet and --answers FILE");
+    }
+    if overwrites_input(o) {
+        return Outcome::Unusable;
     }
     let mut words = [0u32; 2048];
     let loaded = load_card(o.card, &mut words);

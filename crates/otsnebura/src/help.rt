@@ -19,6 +19,9 @@ fn help_commands() {
         b"                         sets the card up, feeds the trace: a line for each record, and the end\n",
     );
     say(b"                         --quiet: the end alone; --answers FILE: the raw answer bytes\n");
+    say(
+        b"                         (FILE is emptied once the card is set up; it can't be the card or the trace)\n",
+    );
     say(b"  otsnebura card CARD    the card with each time code in ns\n");
     say(b"  otsnebura show TRACE   the records of a trace in words\n");
     say(b"  otsnebura pack HEX     hex text, with blanks and # comments, to raw bytes\n");

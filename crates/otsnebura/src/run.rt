@@ -5,9 +5,11 @@ use cli_arguments::outcome::Outcome;
 use cli_arguments::outcome::unless_error;
 use cli_card::refusal::complain_refusal;
 use cli_io::files::after_printing;
+use cli_io::files::close_file;
 use cli_io::files::complain_read;
 use cli_io::files::complain_write;
 use cli_io::files::name_file;
+use cli_io::files::overwrite_file;
 use cli_io::printing::Waiting;
 use cli_io::printing::flush;
 use cli_io::printing::flush_out;
@@ -46,7 +48,7 @@ fn close_printed(setup: Setup, t: Turn, cells: &[u32], printed: &mut [u8]) -> i3
     after_printing(out.error)
 }
 
-fn outcome_of(session: Session) -> Outcome {
+fn outcome_of_run(session: Session) -> Outcome {
     let fault = fault_of(session);
     if (session.number != 0) | (fault.count > 0) {
         return Outcome::Refused;
@@ -82,7 +84,7 @@ fn close_run(
         return Outcome::Unusable;
     }
     complain_trace(o, session);
-    unless_error(lost, unless_error(unprinted, outcome_of(session)))
+    unless_error(lost, unless_error(unprinted, outcome_of_run(session)))
 }
 
 // Runs the trace after a set-up.
@@ -112,6 +114,56 @@ fn run_session(
     close_run(setup, t, cells, &mut printed, &answers, o, way)
 }
 
+// ---- Where the trace comes from and the answers go
+
+// Progress is for a terminal that shows no lines of records.
+fn shows_progress(quiet: bool) -> bool {
+    let out = libc::isatty(libc::STDOUT_FILENO) == 1;
+    (libc::isatty(libc::STDERR_FILENO) == 1) & (quiet | !out)
+}
+
+fn way_of(o: Options, trace: i32, answers: i32) -> Way {
+    Way {
+        trace: trace,
+        answers: answers,
+        quiet: o.quiet,
+        progress: shows_progress(o.quiet),
+    }
+}
+
+// Runs the trace with answers to a file where one is named, which is opened here, after the set-up.
+fn run_answered(
+    setup: Setup,
+    session: Session,
+    live: &mut [u32],
+    defaults: &[u32],
+    cells: &mut [u32],
+    o: Options,
+    trace: i32,
+) -> Outcome {
+    if o.answers == 0 {
+        return run_session(
+            setup,
+            session,
+            live,
+            defaults,
+            cells,
+            o,
+            way_of(o, trace, -1),
+        );
+    }
+    let answers = overwrite_file(o.answers);
+    if answers < 0 {
+        return Outcome::Unusable;
+    }
+    let way = way_of(o, trace, answers);
+    let outcome = run_session(setup, session, live, defaults, cells, o, way);
+    close_file(answers);
+    outcome
+}
+
+// ---- Set-up
+
 // Sets the card up over what is lent, and runs the trace.
 fn run_lent(
     setup: Setup,
@@ -119,13 +171,13 @@ fn run_lent(
     defaults: &[u32],
     cells: &mut [u32],
     o: Options,
-    way: Way,
+    trace: i32,
 ) -> Outcome {
     let session = begin(setup, &mut *live, defaults, &mut *cells);
     if session.number != 0 {
         return complain_refusal(o.card, setup, session.number, defaults);
     }
-    run_session(setup, session, live, defaults, cells, o, way)
+    run_answered(setup, session, live, defaults, cells, o, trace)
 }
 
 // Lends the first words and cells.
@@ -136,7 +188,7 @@ fn lend(
     defaults: &[u32],
     cells: &mut [u32],
     o: Options,
-    way: Way,
+    trace: i32,
 ) -> Outcome {
     let l = at_most(words_of(setup.slots), live.len());
     let d = at_most(words_of(setup.slots), defaults.len());
@@ -147,12 +199,13 @@ fn lend(
         &defaults[0..d],
         &mut cells[0..c],
         o,
-        way,
+        trace,
     )
 }
 
-pub fn run(setup: Setup, queue: usize, defaults: &[u32], o: Options, way: Way) -> Outcome {
+// Runs an open trace on a card.
+pub fn run(setup: Setup, queue: usize, defaults: &[u32], o: Options, trace: i32) -> Outcome {
     let mut live = [0u32; 2048];
     let mut cells = [0u32; 4095];
-    lend(setup, queue, &mut live, defaults, &mut cells, o, way)
+    lend(setup, queue, &mut live, defaults, &mut cells, o, trace)
 }

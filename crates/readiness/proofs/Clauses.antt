@@ -39,6 +39,11 @@ each-at slots f k (s ∷ l) (suc i) h m =
     let n : suc k + i ≡ k + suc i = omega arith in
     each-at slots f (suc k) l i (omega arith) (omega arith) ∙ ap f n
 
+pub each-length : (slot slots : ℕ) (f : ℕ → Status) (l : List Status) → length (eachFrom slot slots f l) ≡ length l
+unfolding eachFrom
+each-length slot slots f [] = refl
+each-length slot slots f (s ∷ l) = ap suc (each-length (suc slot) slots f l)
+
 -- Link up at clock c: slot i is Pending until c + its own DL Up Time.
 pub link-up-starts : (setup : Setup) (dev : Dev) (l : List Status) (i : ℕ) → dev .clock .0 ≤ 1000000000000000000 → i < setup .slots → i < length l
     → getD (startedByLinkUp setup dev l) i ready ≡ pending LinkUp (at (dev .clock .0 + nanosOf (entryOf setup i .«dl_up») .0))

@@ -13,7 +13,8 @@ use Rattle.readiness.specs.declared.Status.{Status}
 use Rattle.readiness.specs.declared.Slot.{Slot}
 use Rattle.readiness.specs.declared.Setup.{Setup}
 use Rattle.readiness.specs.declared.Dev.{Dev}
-use Rattle.readiness.specs.Status.{down, pending, ready, allReadyFrom, eachFrom, readyAfterLinkUp, startedByLinkUp, stoppedByReset, startedByFlr, startedByD3hot, flrInProgress, afterReset, afterLinkDown, afterColdReset, noControl}
+use Rattle.readiness.specs.Status.{down, pending, ready, allReadyFrom, eachFrom, readyAfterLinkUp, startedByLinkUp, stoppedByReset, startedByFlr, startedByD3hot, flrInProgress, afterReset, afterLinkDown, afterColdReset}
+use Rattle.readiness.specs.Blank.{blankControl}
 use Rattle.readiness.specs.Root.{frsArrive, frsOfDrs, drsSet, drsArrives}
 use Rattle.readiness.specs.Events.{Event, insert, insertAll, dueFrom, frsOf, frsOfSlot}
 use Rattle.readiness.specs.Settle.{Scene, happens, happenAll, lastOfMoment, momentEnds, tells, settles, advances}
@@ -254,6 +255,6 @@ unfolding afterLinkDown afterReset
 link-down = refl
 
 pub cold-reset : afterColdReset busy
-    ≡ record { clock = at 77; link = false; owed = false; «drs_received» = false; control = noControl; queue = record { start = 0; depth = 0; received = false; overflow = false } }
+    ≡ record { clock = at 77; link = false; owed = false; «drs_received» = false; control = blankControl; queue = record { start = 0; depth = 0; received = false; overflow = false } }
 unfolding afterColdReset afterReset
 cold-reset = refl

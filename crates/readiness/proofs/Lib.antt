@@ -3,6 +3,8 @@ pub mod Examples
 pub mod Order
 pub mod Scenes
 pub mod Laws
+pub mod Sent
+pub mod OneSlot
 pub mod AtTheEnd
 pub mod TwoAdvances
 pub mod Bounds

@@ -2,7 +2,7 @@
 use Prim.Native.Nat.{ℕ, zero, suc, _+_, _*_, _/_, _≤_, _<_}
 use native.Mathlib.Omega.{arith}
 use mathlib.Core.Path.{_≡_, refl, sym, ap, _∙_}
-use mathlib.Core.List.{List, [], _∷_, _++_}
+use mathlib.Core.List.{List, [], _∷_}
 use lib.ListN.{length, getD, take, set, length-set}
 use lib.Seq.{set-set, getD-set-same, getD-set-other}
 use Rattle.times.specs.declared.Nanos.{Nanos}
@@ -150,12 +150,3 @@ statuses-take (suc n) l = let three : 3 * suc n ≡ suc (suc (suc (3 * n))) = om
     go (p ∷ []) f = refl
     go (p ∷ t ∷ []) f = refl
     go (p ∷ t ∷ e ∷ r) f = ap (λ (k : List Status). statusOf p t e ∷ k) (f r)
-
--- Whole slots before others.
-pub statuses-append : (a b : List ℕ) (n : ℕ) → length a ≡ 3 * n → statusesIn (a ++ b) ≡ statusesIn a ++ statusesIn b
-unfolding statusesIn
-statuses-append [] b n h = refl
-statuses-append (p ∷ []) b n h = absurd (omega arith)
-statuses-append (p ∷ t ∷ []) b n h = absurd (omega arith)
-statuses-append (p ∷ t ∷ e ∷ a) b zero h = absurd (omega arith)
-statuses-append (p ∷ t ∷ e ∷ a) b (suc n) h = ap (λ (r : List Status). statusOf p t e ∷ r) (statuses-append a b n (omega arith))

@@ -11,24 +11,15 @@ use Rattle.bits.proofs.Choices.{either-way, through}
 use Rattle.times.specs.declared.Nanos.{Nanos}
 use Rattle.frs_queue.specs.declared.Frs.{Frs}
 use Rattle.frs_queue.specs.declared.Tally.{Tally}
-use Rattle.frs_queue.specs.Queue.{Ring, noTally, plusTally, arriveAll}
+use Rattle.frs_queue.specs.Queue.{Ring, noTally, plusTally}
 use Rattle.frs_queue.proofs.Tallies.{Shown, arriveAll-after, arriveAll-shown}
-use Rattle.frs_queue.proofs.Laws.{arriveAll-append, arrives-length}
+use Rattle.frs_queue.proofs.Laws.{arriveAll-length}
 use Rattle.readiness.specs.declared.Setup.{Setup}
 use Rattle.readiness.specs.Status.{ready}
 use Rattle.readiness.specs.Root.{Root, ringOf, withRing, frsArrive, frsOfDrs, drsSet, drsArrives, nothingOwed}
 use Rattle.readiness.specs.Events.{Event, due, frsOf}
 use Rattle.readiness.specs.Settle.{Scene, happens, happenAll, lastOfMoment, momentEnds, drsDue, tells, settles, atClock}
 use Rattle.readiness.proofs.Order.{Each, readyBy, setReady, due-ready}
-
--- messages that arrive, and then others, are all of them one after the other
-pub frsArrive-append : (a b : List Frs) (x : Root) → frsArrive b (frsArrive a x) ≡ frsArrive (a ++ b) x
-unfolding frsArrive
-frsArrive-append a b x = ap (λ (r : Ring). withRing r x) (sym (arriveAll-append (x .dev .control .«frs_interrupt») a b (ringOf x)))
-
-pub frsArrive-none : (x : Root) → frsArrive [] x ≡ x
-unfolding frsArrive arriveAll
-frsArrive-none x = refl
 
 -- a DRS was told
 abbrev pub told : Setup → Scene → Scene
@@ -102,11 +93,6 @@ kept-trans x y z h k =
       link = k .link ∙ h .link;
       control = k .control ∙ h .control;
     }
-
-arriveAll-length : (enabled : Bool) (messages : List Frs) (r : Ring) → length (arriveAll enabled messages r .cells) ≡ length (r .cells)
-unfolding arriveAll
-arriveAll-length enabled [] r = refl
-arriveAll-length enabled (frs ∷ more) r = arriveAll-length enabled more _ ∙ arrives-length enabled frs r
 
 pub happens-kept : (setup : Setup) (e : Event) (x : Scene) → Kept x (happens setup e x)
 unfolding happens frsArrive

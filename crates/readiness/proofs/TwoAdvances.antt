@@ -1,15 +1,13 @@
 -- Two advances are one, and an advance is as many advances by one nanosecond.
-use Prim.Native.Nat.{ℕ, zero, suc, _+_, _≤_, min}
+use Prim.Native.Nat.{ℕ, zero, suc, _+_, _≤_}
 use native.Mathlib.Omega.{arith}
-use mathlib.Core.Bool.{Bool, true, false, _||_, cond}
+use mathlib.Core.Bool.{false, _||_}
 use mathlib.Core.List.{List, []}
 use mathlib.Core.Path.{_≡_, refl, sym, ap, ap₂, _∙_, subst}
-use lib.Dec.{leb}
 use lib.ListN.{length}
-use borrow.Author.Tests.{leb-true, leb-false}
-use Rattle.bits.proofs.Tests.{both-right}
 use Rattle.times.specs.declared.Nanos.{Nanos}
 use Rattle.times.specs.Moments.{greatestNanos, sumOf}
+use Rattle.times.proofs.Laws.{sum-min, sum-most, sum-later}
 use Rattle.frs_queue.specs.declared.Tally.{Tally}
 use Rattle.frs_queue.specs.Queue.{noTally}
 use Rattle.frs_queue.proofs.Tallies.{Shown, plus-none-right, counted-plain}
@@ -19,17 +17,10 @@ use Rattle.readiness.specs.Events.{Event, due}
 use Rattle.readiness.specs.Settle.{Scene, happenAll, drsDue, tells, settles, atClock, advances}
 use Rattle.readiness.proofs.Order.{readyBy, setReady, due-before, due-after, due-ready, due-split}
 use Rattle.readiness.proofs.Scenes.{Kept, happenAll-statuses, happenAll-append, tells-statuses, tells-kept, happenAll-kept, settled-kept, happenAll-at, tells-at, since, fresh, settles-since, settles-shown}
-use Rattle.readiness.proofs.Laws.{tells-quiet, tells-drs, happenAll-drs, settle-rest, settled-due, settled-drs, settle-counts, padded, settle-padded}
+use Rattle.readiness.proofs.Laws.{tells-quiet, tells-drs, happenAll-drs, settle-rest, settled-due, settled-drs}
+use Rattle.readiness.proofs.Sent.{settle-counts}
 
 -- ---- moments
-
-sum-min : (t d : Nanos) → sumOf t d .0 ≡ min (t .0 + d .0) greatestNanos
-unfolding sumOf
-sum-min t d = by (leb (t .0 + d .0) greatestNanos) refl
-  where
-    by : (b : Bool) → leb (t .0 + d .0) greatestNanos ≡ b → cond b (t .0 + d .0) greatestNanos ≡ min (t .0 + d .0) greatestNanos
-    by true e = omega (arith, leb-true (t .0 + d .0) greatestNanos e)
-    by false e = omega (arith, leb-false (t .0 + d .0) greatestNanos e)
 
 -- two times together
 abbrev pub together : Nanos → Nanos → Nanos
@@ -40,12 +31,6 @@ pub sum-together : (t a b : Nanos) → sumOf (sumOf t a) b ≡ sumOf t (together
 sum-together t a b =
     let e : sumOf (sumOf t a) b .0 ≡ sumOf t (together a b) .0 = omega (arith, sum-min t a, sum-min (sumOf t a) b, sum-min t (together a b)) in
     ap (λ (n : ℕ). record { 0 = n }) e
-
-sum-most : (t d : Nanos) → sumOf t d .0 ≤ greatestNanos
-sum-most t d = omega (arith, sum-min t d)
-
-sum-later : (t d : Nanos) → t .0 ≤ greatestNanos → t .0 ≤ sumOf t d .0
-sum-later t d h = omega (arith, sum-min t d)
 
 sum-none : (t : Nanos) → t .0 ≤ greatestNanos → sumOf t (record { 0 = 0 }) ≡ t
 sum-none t h =
@@ -212,8 +197,3 @@ by-one-rests setup (suc d) x r h = one-more setup d x h (by-one-rests setup d (f
 -- any other asks nothing of the scene.
 pub by-one : (setup : Setup) (d : ℕ) (x : Scene) → Shown (x .root .tally) → advances setup (record { 0 = suc d }) x ≡ nanoByNano setup (suc d) x
 by-one setup d x h = one-more setup d x h (by-one-rests setup d (fresh (advances setup nano x)) (advances-rests setup nano x) (none-shown noTally refl))
-
--- Advances never see the slots past the card's.
-pub advances-padded : (setup : Setup) (n : ℕ) (d : Nanos) (x : Scene) → advances setup d (padded n x) ≡ padded n (advances setup d x)
-unfolding advances
-advances-padded setup n d x = settle-padded setup n (atClock (sumOf (x .root .dev .clock) d) x)

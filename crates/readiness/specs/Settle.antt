@@ -8,14 +8,12 @@ use Rattle.times.specs.declared.Nanos.{Nanos}
 use Rattle.times.specs.Moments.{sumOf}
 use Rattle.frs_queue.specs.declared.Frs.{Frs}
 use Rattle.readiness.specs.declared.Status.{Status}
-use Rattle.readiness.specs.declared.Slot.{Slot}
 use Rattle.readiness.specs.declared.Setup.{Setup}
 use Rattle.readiness.specs.declared.RootPort.{RootPort}
-use Rattle.readiness.specs.declared.SlotSettled.{SlotSettled}
 use Rattle.readiness.specs.Fields.{withClock}
 use Rattle.readiness.specs.Status.{ready, allReady}
 use Rattle.readiness.specs.Root.{Root, root, frsArrive, drsArrives, nothingOwed, frsOfDrs}
-use Rattle.readiness.specs.Events.{Event, dueEvent, due, frsOfSlot, frsOf}
+use Rattle.readiness.specs.Events.{Event, due, frsOf}
 
 -- the slot statuses and the root port
 pub record Scene : Type 0 where
@@ -38,7 +36,7 @@ unfoldable pub tells : Setup → Scene → Scene
 tells setup x =
     cond (drsDue setup x) (record { statuses = x .statuses; root = nothingOwed (drsArrives (setup .«port_id») (x .root)) }) x
 
--- no other event is at the same moment
+-- the next event, if there is one, is at a later moment
 abbrev pub lastOfMoment : Event → List Event → Bool
 lastOfMoment e [] = true
 lastOfMoment e (f ∷ es) = not (eqb (e .time .0) (f .time .0))
@@ -52,7 +50,8 @@ unfoldable pub happenAll : Setup → List Event → Scene → Scene
 happenAll setup [] x = x
 happenAll setup (e ∷ es) x = happenAll setup es (momentEnds setup e es (happens setup e x))
 
--- slots whose ready time is at or before the clock become Ready in order, and at the end of each moment the DRS is told that is due; one that was due before comes first
+-- slots whose ready time is at or before the clock become Ready in order, and at the end of each moment DRS Received is set if that is due. In no sound state
+-- it is due before anything happens; else it comes first
 unfoldable pub settles : Setup → Scene → Scene
 settles setup x = happenAll setup (due (x .root .dev .clock) (x .statuses)) (tells setup x)
 
@@ -81,19 +80,3 @@ framesOf setup (e ∷ es) x =
 
 unfoldable pub frsSent : Setup → Scene → List Frs
 frsSent setup x = frsTold setup x ++ framesOf setup (due (x .root .dev .clock) (x .statuses)) (tells setup x)
-
--- one slot's status and the root port
-pub record SlotScene : Type 0 where
-  pub status : Status
-  pub root : Root
-
-abbrev pub slotScene : List ℕ → SlotSettled → SlotScene
-slotScene cells s = record { status = s .status; root = root cells (s .port) }
-
--- one slot becomes Ready if its ready time is at or before the clock, and its FRS, if any, arrives
-abbrev pub slotHappens : (bus : ℕ) → Slot → SlotScene → List Event → SlotScene
-slotHappens bus entry x [] = x
-slotHappens bus entry x (e ∷ es) = record { status = ready; root = frsArrive (frsOfSlot bus entry (e .slot) (e .cause)) (x .root) }
-
-unfoldable pub slotSettles : (bus : ℕ) → Slot → (slot : ℕ) → SlotScene → SlotScene
-slotSettles bus entry slot x = slotHappens bus entry x (dueEvent (x .root .dev .clock) slot (x .status .phase))

@@ -16,7 +16,6 @@ use Rattle.readiness.specs.declared.Phase.the-variants.{Down, Pending, R
 use Rattle.readiness.specs.declared.Status.{Status}
 use Rattle.readiness.specs.declared.Slot.{Slot}
 use Rattle.readiness.specs.declared.Setup.{Setup}
-use Rattle.readiness.specs.declared.Control.{Control}
 use Rattle.readiness.specs.declared.Dev.{Dev}
 use Rattle.readiness.specs.Fields.{withLink, withOwed, withDrsReceived, withControl, withQueue}
 use Rattle.readiness.specs.Blank.{blankControl, blankSlot}
@@ -39,7 +38,7 @@ readyPhase Ready = true
 abbrev pub isReady : Status → Bool
 isReady s = readyPhase (s .phase)
 
--- every slot counts for DRS
+-- every slot counts for DRS; which do is asked here alone, for requests to come
 abbrev pub countsForDrs : Setup → (slot : ℕ) → Bool
 countsForDrs setup slot = true
 
@@ -51,13 +50,9 @@ allReadyFrom setup slot (s ∷ l) = (not (countsForDrs setup slot) || isReady s)
 abbrev pub allReady : Setup → List Status → Bool
 allReady setup l = allReadyFrom setup 0 l
 
--- what a slot that isn't there would be
-abbrev pub noSlot : Slot
-noSlot = blankSlot
-
--- a slot's entry in the set-up
+-- a slot's entry in the set-up; a slot that isn't there would have a blank one
 abbrev pub entryOf : Setup → ℕ → Slot
-entryOf setup slot = getD (setup .entries) slot noSlot
+entryOf setup slot = getD (setup .entries) slot blankSlot
 
 -- the status of each of the card's slots anew; what lies past the card's slots stays
 unfoldable pub eachFrom : (slot slots : ℕ) → (ℕ → Status) → List Status → List Status
@@ -93,17 +88,15 @@ afterReset d = withQueue (withOwed (withLink d false) false) (emptied (d .queue)
 unfoldable pub afterLinkDown : Dev → Dev
 afterLinkDown d = withDrsReceived (afterReset d) false
 
--- cold reset clears all of them
-abbrev pub noControl : Control
-noControl = blankControl
-
+-- Received and Overflow cleared
 abbrev pub noBits : Queue → Queue
 noBits q = record { start = q .start; depth = q .depth; received = false; overflow = false }
 
+-- cold reset clears all of the port's bits
 unfoldable pub afterColdReset : Dev → Dev
 afterColdReset d =
     let r = afterReset d in
-    withQueue (withControl (withDrsReceived r false) noControl) (noBits (r .queue))
+    withQueue (withControl (withDrsReceived r false) blankControl) (noBits (r .queue))
 
 -- the longest that an FLR is in progress
 abbrev pub flrMost : Nanos

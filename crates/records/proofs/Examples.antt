@@ -10,7 +10,8 @@ use Rattle.times.specs.declared.Nanos.{Nanos}
 use Rattle.times.specs.Codes.{nanosOf, powerOf}
 use Rattle.times.specs.Moments.{sumOf, leastOf}
 use Rattle.registers.specs.Rows.{endpointTable, find, endpointRow, rowOf, readsZero, startsFlr}
-use Rattle.registers.specs.Words.{laneMask, held, readWord, writeBit, writeWord, resetBit, linkReset, flrReset, hardwareSet, startsD3hot}
+use Rattle.registers.specs.Words.{laneMask, readWord, writeBit, writeWord, resetBit, linkReset, flrReset, hardwareSet, startsD3hot}
+use Rattle.registers.specs.inner.Masks.{held}
 use Rattle.config_space.specs.Functions.{resetWhere, linkResetSlot, flrResetSlot, linkResetAll, coldReset}
 use Rattle.messages.specs.declared.Message.the-variants.{Drs, Frs}
 use Rattle.frs_queue.specs.Queue.{counted, placeOf, queues, drops, arrives, arriveAll, removed, registerOf, messagesOf}
@@ -20,8 +21,8 @@ use Rattle.readiness.specs.declared.Setup.{Setup}
 use Rattle.readiness.specs.declared.Control as PortControl
 use Rattle.readiness.specs.declared.Dev.{Dev}
 use Rattle.readiness.specs.Fields.{withClock, withLink, withOwed, withDrsReceived, withControl, withQueue}
-use Rattle.readiness.specs.Blank.{blankDev}
-use Rattle.readiness.specs.Status.{allReadyFrom, eachFrom, readyAfterLinkUp, afterReset, afterLinkDown, afterColdReset, startedByFlr, startedByD3hot, noSlot, down, pending, ready}
+use Rattle.readiness.specs.Blank.{blankDev, blankSlot}
+use Rattle.readiness.specs.Status.{allReadyFrom, eachFrom, readyAfterLinkUp, afterReset, afterLinkDown, afterColdReset, startedByFlr, startedByD3hot, down, pending, ready}
 use Rattle.readiness.specs.Root.{frsArrive, frsOfDrs, drsSet, drsArrives}
 use Rattle.readiness.specs.Events.{insert, insertAll, dueFrom, frsOfSlot, frsOf}
 use Rattle.readiness.specs.Settle.{happens, tells, momentEnds, happenAll, settles, frsTold, frsEnding, framesOf, frsSent}
@@ -51,7 +52,7 @@ abbrev entry : Slot
 entry = record { reset = record { 0 = 0 }; «dl_up» = record { 0 = 0x00A }; flr = record { 0 = 0xA04 }; d3hot = record { 0 = 0x003 }; «sends_frs» = true }
 
 abbrev pub card : Setup
-card = record { slots = 1; entries = entry ∷ replicate 31 noSlot; bus = 1; «port_id» = 0x0008 }
+card = record { slots = 1; entries = entry ∷ replicate 31 blankSlot; bus = 1; «port_id» = 0x0008 }
 
 -- vendor and device ID; FLR capable; device control 2810h; interrupt line FFh
 abbrev pub defaults : List ℕ
@@ -158,7 +159,7 @@ flr-not-capable = refl
 
 -- with an FLR Time of 0 the slot is Ready before that record's own answer, with its FRS counted in it
 abbrev atOnce : Setup
-atOnce = record { slots = 1; entries = record { reset = record { 0 = 0 }; «dl_up» = record { 0 = 0 }; flr = record { 0 = 0x200 }; d3hot = record { 0 = 0 }; «sends_frs» = true } ∷ replicate 31 noSlot; bus = 1; «port_id» = 0x0008 }
+atOnce = record { slots = 1; entries = record { reset = record { 0 = 0 }; «dl_up» = record { 0 = 0 }; flr = record { 0 = 0x200 }; d3hot = record { 0 = 0 }; «sends_frs» = true } ∷ replicate 31 blankSlot; bus = 1; «port_id» = 0x0008 }
 
 pub flr-at-once : answerBytes (run atOnce defaults (settled (with false true 0)) flr .reply) ≡ 0 ∷ 1 ∷ 1 ∷ 0 ∷ 0 ∷ 0 ∷ 0 ∷ 0 ∷ []
 unfolding computed
@@ -414,7 +415,7 @@ clock-past-its-end = refl
 -- ---- two slots
 
 abbrev pair : Setup
-pair = record { slots = 2; entries = entry ∷ entry ∷ replicate 30 noSlot; bus = 1; «port_id» = 0x0008 }
+pair = record { slots = 2; entries = entry ∷ entry ∷ replicate 30 blankSlot; bus = 1; «port_id» = 0x0008 }
 
 -- slot 0 becomes Ready after slot 1
 abbrev racing : State
@@ -437,7 +438,7 @@ abbrev unlike : Setup
 unlike =
     record {
       slots = 2;
-      entries = entry ∷ record { reset = record { 0 = 0 }; «dl_up» = record { 0 = 0x220 }; flr = record { 0 = 0 }; d3hot = record { 0 = 0 }; «sends_frs» = false } ∷ replicate 30 noSlot;
+      entries = entry ∷ record { reset = record { 0 = 0 }; «dl_up» = record { 0 = 0x220 }; flr = record { 0 = 0 }; d3hot = record { 0 = 0 }; «sends_frs» = false } ∷ replicate 30 blankSlot;
       bus = 1;
       «port_id» = 0x0008;
     }

@@ -1,23 +1,25 @@
 -- Every record keeps a sound state sound, and the lengths of all that is lent.
-use Prim.Native.Nat.{ℕ, zero, suc, _+_, _/_, _%_, _≤_, _<_}
+use Prim.Native.Nat.{ℕ, _/_, _%_, _≤_, _<_}
 use native.Mathlib.Nat.{zero-add}
 use native.Mathlib.Omega.{arith}
 use mathlib.Core.Path.{_≡_, refl, ap, sym, subst, _∙_}
 use mathlib.Core.Bool.{Bool, true, false, not, _||_, true≢false, false≢true}
-use mathlib.Core.List.{List, [], _∷_, _++_}
+use mathlib.Core.List.{List, [], _∷_}
 use lib.Dec.{eqb, leb, ltb}
-use lib.ListN.{length, getD, set, take, drop, replicate, length-set, length-take, List·getD-eq-default}
-use lib.Seq.{getD-set-other, getD-take, getD-drop}
-use borrow.Author.Tests.{ltb-true, ltb-false, leb-true, le-leb, eqb-false}
+use lib.ListN.{length, set, take, drop, length-set}
+use lib.Seq.{getD-set-other}
+use borrow.Author.Tests.{ltb-true, leb-true, le-leb, eqb-false}
 use Rattle.bits.proofs.Choices.{either-way}
 use Rattle.bits.specs.Bits.{bit}
 use Rattle.times.specs.declared.Nanos.{Nanos}
 use Rattle.times.specs.Codes.{nanosOf, allowed}
-use Rattle.times.specs.Moments.{greatestNanos, sumOf, leastOf, clockEnd}
-use Rattle.times.proofs.Laws.{allowed-most, sum-plain, sum-code, least-both}
+use Rattle.times.specs.Moments.{sumOf, leastOf, clockEnd}
+use Rattle.times.proofs.Laws.{allowed-most, sum-plain, sum-later, sum-code, least-both}
 use Rattle.messages.specs.declared.Message.{Message}
 use Rattle.messages.specs.declared.Message.the-variants.{Drs, Frs, NotReadiness}
-use Rattle.messages.specs.Messages.{Bytes, readMessage}
+use Rattle.bits.specs.Bytes.{Bytes, byteAt}
+use Rattle.bits.proofs.Bytes.{byte-at, bytes-take, bytes-drop}
+use Rattle.messages.specs.Messages.{readMessage}
 use Rattle.messages.proofs.Cases.{cases}
 use Rattle.registers.specs.declared.Kind.{Kind}
 use Rattle.config_space.proofs.Slots.{link-reset-slot-length, flr-reset-slot-length, link-reset-all-length, cold-reset-defaults}
@@ -34,13 +36,13 @@ use Rattle.readiness.specs.declared.Setup.{Setup}
 use Rattle.readiness.specs.declared.Dev.{Dev}
 use Rattle.readiness.specs.Status.{ready, pending, isReady, entryOf, eachFrom, readyAfterLinkUp, statusAfterReset, afterReset, afterLinkDown, afterColdReset, flrMost, startedByFlr, startedByD3hot}
 use Rattle.readiness.specs.Root.{frsArrive, drsArrives, drsSet}
-use Rattle.readiness.proofs.Clauses.{each-at}
+use Rattle.readiness.proofs.Clauses.{each-at, each-length}
 use Rattle.records.specs.declared.Request.{Request}
 use Rattle.records.specs.declared.Record.{Record}
 use Rattle.records.specs.declared.Record.the-variants.{Advance, Read, Write, Message as MessageRecord, LinkUp, LinkDown, ColdReset, ReadQueue, RemoveOldest, ClearBits, Control, HardwareSet, ReadBits, NoKind}
 use Rattle.records.specs.declared.Completion.the-variants as completion
 use Rattle.records.specs.State.{State, state, Seat, seatOf, statusAt, sceneOf, slotKind}
-use Rattle.records.specs.Decode.{byte, decode}
+use Rattle.records.specs.Decode.{decode}
 use Rattle.records.specs.Answer.{Effect, refused, does, answered}
 use Rattle.records.specs.Route.{routeOf, isAccess}
 use Rattle.records.specs.Requests.{wordAt, written, writeSeat, afterFlr, afterD3hot, readEffect, writeEffect, hardwareEffect}
@@ -49,11 +51,13 @@ use Rattle.records.specs.CardRecords.{advanceEffect, linkUpEffect, linkD
 use Rattle.records.specs.Arrivals.{ofRecord, arrivalsIn, arrivals}
 use Rattle.records.specs.Run.{atSlot, atPort, frontOf, effect, run}
 use Rattle.records.specs.Sound.{soundPhase, matchesLink, Sound, Fitting}
+use Rattle.records.specs.StaysSound.{SoundSetup, Keeps}
 use Rattle.records.proofs.SoundFacts.{flr-end-exactly, pending-exactly, phase-test, link-test, cell-test}
-use Rattle.records.proofs.Parted.{no-slot-read, no-slot-write, no-slot-set, access-ready, write-cases}
+use Rattle.records.proofs.Leaving.{write-cases}
+use Rattle.records.proofs.Parted.{no-slot-read, no-slot-write, no-slot-set, access-ready}
 use Rattle.records.proofs.QueueKept.{SoundRing, AllSoundFrs, both-sound, cells-sound, drs-sound, sent-sound, frs-keeps, drs-keeps, frs-cells, drs-cells, removed-keeps, empty-sound}
-use Rattle.records.proofs.SlotsKept.{set-keeps, length-each, each-past}
-use Rattle.records.proofs.Kept.{SoundSetup, SoundMessage, SoundRecord, Keeps, keeps-itself, keeps-on}
+use Rattle.records.proofs.SlotsKept.{set-keeps, each-past}
+use Rattle.records.proofs.Kept.{SoundMessage, SoundRecord, keeps-itself, keeps-on}
 use Rattle.records.proofs.Settled.{Starting, Settling, slots-due, settle-sound}
 
 -- ---- what each record leaves before slots become Ready
@@ -70,11 +74,6 @@ starting-later clock later h Ready e = tt
 starting-later clock later h (Pending c t) e = (let m = e .0 in omega arith, e .1)
 
 -- moments: a clock that isn't past its end has room for every code's time
-sum-later : (t by : Nanos) → t .0 ≤ greatestNanos → t .0 ≤ sumOf t by .0
-unfolding sumOf
-sum-later t by h =
-    either-way (λ (n : ℕ). t .0 ≤ n) (leb (t .0 + by .0) greatestNanos) (t .0 + by .0) greatestNanos (λ e. omega arith) (λ e. h)
-
 flr-starting : (clock : Nanos) (e : Slot) → clock .0 ≤ clockEnd → allowed (e .flr) ≡ true → Starting clock (startedByFlr clock e .phase)
 unfolding startedByFlr
 flr-starting clock e h a =
@@ -104,9 +103,6 @@ module _ (setup : Setup) (good : SoundSetup setup) (defaults : List ℕ) (s : St
   phases-starting : (i : ℕ) → i < setup .slots → Starting (s .port .clock) (statusAt (s .statuses) i .phase)
   phases-starting i l = sound-starting (s .port .clock) (statusAt (s .statuses) i .phase) (phase-test h i l)
 
-  link-owed : s .port .owed ≡ true → s .port .link ≡ true
-  link-owed = h .owedLink
-
   -- ---- the port alone
   record PortKeeps (y : Front) : Type 0 where
     clock : y .dev .clock ≡ s .port .clock
@@ -129,7 +125,7 @@ module _ (setup : Setup) (good : SoundSetup setup) (defaults : List ℕ) (s : St
         signalling = k .signalling;
         phases = λ i l. subst (λ (c : Nanos). Starting c (statusAt (s .statuses) i .phase)) (sym (k .clock)) (phases-starting i l);
         links = λ i l. ap (λ (b : Bool). matchesLink b (statusAt (s .statuses) i .phase)) (k .link) ∙ link-test h i l;
-        owed = λ e. k .link ∙ link-owed (sym (k .owed) ∙ e);
+        owed = λ e. k .link ∙ h .owedLink (sym (k .owed) ∙ e);
         past = fits .past;
         cells = k .cells;
         live = refl;
@@ -206,7 +202,7 @@ module _ (setup : Setup) (good : SoundSetup setup) (defaults : List ℕ) (s : St
         signalling = h .signalling;
         phases = λ j m. set-keeps (λ (v : Status). Starting (s .port .clock) (v .phase)) (s .statuses) i j (y .status) (k .phase) (phases-starting j m);
         links = λ j m. set-keeps (λ (v : Status). matchesLink (s .port .link) (v .phase) ≡ true) (s .statuses) i j (y .status) (k .link) (link-test h j m);
-        owed = link-owed;
+        owed = h .owedLink;
         past = λ j m. getD-set-other (s .statuses) i j (y .status) ready (λ e. omega arith) ∙ fits .past j m;
         cells = refl;
         live = k .live;
@@ -292,7 +288,7 @@ module _ (setup : Setup) (good : SoundSetup setup) (defaults : List ℕ) (s : St
         signalling = h .signalling;
         phases = λ i l. starting-later (s .port .clock) t (sum-later (s .port .clock) by (let c = h .clock in omega arith)) (statusAt (s .statuses) i .phase) (phases-starting i l);
         links = link-test h;
-        owed = link-owed;
+        owed = h .owedLink;
         past = fits .past;
         cells = refl;
         live = refl;
@@ -325,7 +321,7 @@ module _ (setup : Setup) (good : SoundSetup setup) (defaults : List ℕ) (s : St
         past = past-anew starts;
         cells = refl;
         live = refl;
-        statuses = length-each (setup .slots) starts 0 (s .statuses);
+        statuses = each-length 0 (setup .slots) starts (s .statuses);
       })
     where
       starts : ℕ → Status
@@ -357,7 +353,7 @@ module _ (setup : Setup) (good : SoundSetup setup) (defaults : List ℕ) (s : St
         past = past-anew (statusAfterReset setup (s .port));
         cells = refl;
         live = link-reset-all-length (slotKind setup) (s .live) defaults;
-        statuses = length-each (setup .slots) (statusAfterReset setup (s .port)) 0 (s .statuses);
+        statuses = each-length 0 (setup .slots) (statusAfterReset setup (s .port)) (s .statuses);
       })
       (λ e. tt)
 
@@ -374,7 +370,7 @@ module _ (setup : Setup) (good : SoundSetup setup) (defaults : List ℕ) (s : St
         past = past-anew (statusAfterReset setup (s .port));
         cells = refl;
         live = ap length (cold-reset-defaults (s .live) defaults (fits .words ∙ sym (fits .defaultWords))) ∙ fits .defaultWords ∙ sym (fits .words);
-        statuses = length-each (setup .slots) (statusAfterReset setup (s .port)) 0 (s .statuses);
+        statuses = each-length 0 (setup .slots) (statusAfterReset setup (s .port)) (s .statuses);
       }
 
   -- ---- every record
@@ -444,43 +440,26 @@ module _ (setup : Setup) (good : SoundSetup setup) (defaults : List ℕ) (s : St
 
 -- ---- records of bytes
 
-bytes-part : (n k : ℕ) (l : List ℕ) → Bytes l → Bytes (take n (drop k l))
-bytes-part n k l b i = by (ltb i n) refl
-  where
-    by : (t : Bool) → ltb i n ≡ t → getD (take n (drop k l)) i 0 < 256
-    by true e = let v = b (k + i) in omega (arith, getD-take n (drop k l) i 0 (ltb-true i n e), getD-drop k l i 0)
-    by false e =
-        let past : length (take n (drop k l)) ≤ i = omega (arith, length-take n (drop k l), ltb-false i n e) in
-        omega (arith, List·getD-eq-default (take n (drop k l)) 0 past)
-
 message-sound : (m : List ℕ) → Bytes m → SoundMessage (readMessage m)
-message-sound m b = cases SoundMessage m (λ l. tt) (λ l a. (omega (arith, b 4, b 5), a)) tt
+message-sound m b = cases SoundMessage m (λ l. tt) (λ l a. (omega (arith, byte-at m 4 b, byte-at m 5 b), a)) tt
 
 -- A record that is read from bytes, any bytes, has an ID of 16 bits and a reason that an FRS may have.
 pub decode-sound : (r : List ℕ) → Bytes r → SoundRecord (decode r)
 unfolding decode
 decode-sound r b =
-    either-way SoundRecord (eqb (byte r 0) 0x01) _ _ (λ e. tt)
-    (λ n. either-way SoundRecord (eqb (byte r 0) 0x02) _ _ (λ e. tt)
-    (λ n. either-way SoundRecord (eqb (byte r 0) 0x03) _ _ (λ e. tt)
-    (λ n. either-way SoundRecord (eqb (byte r 0) 0x04) _ _ (λ e. message-sound (take 16 (drop 1 r)) (bytes-part 16 1 r b))
-    (λ n. either-way SoundRecord (eqb (byte r 0) 0x05) _ _ (λ e. tt)
-    (λ n. either-way SoundRecord (eqb (byte r 0) 0x06) _ _ (λ e. tt)
-    (λ n. either-way SoundRecord (eqb (byte r 0) 0x07) _ _ (λ e. tt)
-    (λ n. either-way SoundRecord (eqb (byte r 0) 0x08) _ _ (λ e. tt)
-    (λ n. either-way SoundRecord (eqb (byte r 0) 0x09) _ _ (λ e. tt)
-    (λ n. either-way SoundRecord (eqb (byte r 0) 0x0A) _ _ (λ e. tt)
-    (λ n. either-way SoundRecord (eqb (byte r 0) 0x0B) _ _ (λ e. tt)
-    (λ n. either-way SoundRecord (eqb (byte r 0) 0x0C) _ _ (λ e. tt)
-    (λ n. either-way SoundRecord (eqb (byte r 0) 0x0D) _ _ (λ e. tt) (λ n. tt)))))))))))))
-
--- bytes with zeros after them are bytes
-pub bytes-padded : (r : List ℕ) (n : ℕ) → Bytes r → Bytes (r ++ replicate n 0)
-bytes-padded [] zero b i = omega arith
-bytes-padded [] (suc n) b zero = omega arith
-bytes-padded [] (suc n) b (suc i) = bytes-padded [] n b i
-bytes-padded (x ∷ r) n b zero = b 0
-bytes-padded (x ∷ r) n b (suc i) = bytes-padded r n (λ j. b (suc j)) i
+    either-way SoundRecord (eqb (byteAt r 0) 0x01) _ _ (λ e. tt)
+    (λ n. either-way SoundRecord (eqb (byteAt r 0) 0x02) _ _ (λ e. tt)
+    (λ n. either-way SoundRecord (eqb (byteAt r 0) 0x03) _ _ (λ e. tt)
+    (λ n. either-way SoundRecord (eqb (byteAt r 0) 0x04) _ _ (λ e. message-sound (take 16 (drop 1 r)) (bytes-take 16 (drop 1 r) (bytes-drop 1 r b)))
+    (λ n. either-way SoundRecord (eqb (byteAt r 0) 0x05) _ _ (λ e. tt)
+    (λ n. either-way SoundRecord (eqb (byteAt r 0) 0x06) _ _ (λ e. tt)
+    (λ n. either-way SoundRecord (eqb (byteAt r 0) 0x07) _ _ (λ e. tt)
+    (λ n. either-way SoundRecord (eqb (byteAt r 0) 0x08) _ _ (λ e. tt)
+    (λ n. either-way SoundRecord (eqb (byteAt r 0) 0x09) _ _ (λ e. tt)
+    (λ n. either-way SoundRecord (eqb (byteAt r 0) 0x0A) _ _ (λ e. tt)
+    (λ n. either-way SoundRecord (eqb (byteAt r 0) 0x0B) _ _ (λ e. tt)
+    (λ n. either-way SoundRecord (eqb (byteAt r 0) 0x0C) _ _ (λ e. tt)
+    (λ n. either-way SoundRecord (eqb (byteAt r 0) 0x0D) _ _ (λ e. tt) (λ n. tt)))))))))))))
 
 -- ---- from record to record
 

@@ -1,8 +1,8 @@
 -- What holds of every record, whatever its kind.
-use Prim.Native.Nat.{ℕ, zero, suc, _+_, _*_, _/_, _%_, _≤_, _<_}
+use Prim.Native.Nat.{ℕ, _+_, _/_, _≤_, _<_}
 use native.Mathlib.Omega.{arith}
 use mathlib.Core.Bool.{Bool, true, false, _||_, cond, false≢true}
-use mathlib.Core.List.{List, [], _∷_}
+use mathlib.Core.List.{List}
 use mathlib.Core.Logic.{_≢_}
 use mathlib.Core.Path.{_≡_, refl, sym, ap, _∙_}
 use lib.Dec.{leb}
@@ -14,8 +14,8 @@ use Rattle.bits.specs.Bits.{bit}
 use Rattle.times.specs.declared.Nanos.{Nanos}
 use Rattle.times.specs.Moments.{greatestNanos, sumOf, clockEnd}
 use Rattle.registers.specs.declared.Kind.{Kind}
-use Rattle.registers.specs.Rows.{flrCapabilityWord, startsFlr, deviceControl, deviceZeros, readsZero}
-use Rattle.registers.specs.Words.{writeWord, hardwareSet, startsD3hot}
+use Rattle.registers.specs.Rows.{deviceZeros, readsZero}
+use Rattle.registers.specs.Words.{writeWord, hardwareSet}
 use Rattle.config_space.specs.Functions.{linkResetSlot}
 use Rattle.registers.proofs.Laws.{read-zero, device-zeros}
 use Rattle.config_space.proofs.Slots.{link-reset-slot-others, flr-reset-slot-others}
@@ -31,46 +31,29 @@ use Rattle.readiness.specs.declared.Dev.{Dev}
 use Rattle.readiness.specs.Status.{ready, entryOf, afterReset, afterLinkDown, afterColdReset}
 use Rattle.readiness.specs.Root.{frsArrive, drsSet, drsArrives}
 use Rattle.readiness.specs.Settle.{Scene, advances}
-use Rattle.readiness.proofs.Order.{phaseBy, readyBy}
+use Rattle.readiness.proofs.Order.{phaseBy}
 use Rattle.readiness.proofs.Scenes.{fresh, settled-kept, settled-statuses}
 use Rattle.readiness.proofs.TwoAdvances.{together, two-advances}
 use Rattle.records.specs.declared.Request.{Request}
 use Rattle.records.specs.declared.Record.{Record}
-use Rattle.records.specs.declared.Record.the-variants.{Advance, Read, Write, Message, LinkUp, LinkDown, ColdReset, ReadQueue, RemoveOldest, ClearBits, Control, HardwareSet, ReadBits, NoKind}
+use Rattle.records.specs.declared.Record.the-variants.{Advance, Read}
 use Rattle.records.specs.declared.Completion.the-variants as completion
-use Rattle.records.specs.declared.Reply.{Reply}
 use Rattle.records.specs.State.{State, state, Seat, seatOf, statusAt, wordPlace, sceneOf, withLive, slotKind}
-use Rattle.records.specs.Decode.{four}
-use Rattle.records.specs.Answer.{Effect, refused, does, Ran, reply, answered, answerBytes, completionNumber}
+use Rattle.records.specs.Answer.{Effect, refused, does, Ran, reply, answered, completionNumber}
 use Rattle.records.specs.Requests.{wordAt, afterFlr, afterD3hot, written, writeSeat}
 use Rattle.records.specs.PortRecords.{clearedDev}
 use Rattle.records.specs.CardRecords.{advanceEffect}
 use Rattle.records.specs.Run.{effect, run}
 use Rattle.records.specs.Sound.{soundPhase, Sound}
+use Rattle.records.specs.Statuses.{statusOf, dataOf, Unchanged}
+use Rattle.records.specs.EachKind.{isAdvance, Addresses, SameSlot}
 use Rattle.records.proofs.SoundFacts.{pending-exactly, phase-test}
-use Rattle.records.proofs.Numbers.{access-facts, statusOf, dataOf, read-done-data, answered-0}
-use Rattle.records.proofs.Leaving.{Leaves, Every, every, advancedBy}
-
--- ---- an answer's bytes
-
-joined : (d a b c w x y z : ℕ) → d ≡ 256 * a + w → a ≡ 256 * b + x → b ≡ 256 * c + y → c ≡ z → w + 256 * x + 65536 * y + 16777216 * z ≡ d
-joined d a b c w x y z e f g h = omega arith
-
--- its last four bytes are its data, low byte first
-pub answer-data : (a : Reply) → a .«data» < 4294967296 → four (answerBytes a) 4 ≡ a .«data»
-unfolding four answerBytes
-answer-data a h =
-    let d : ℕ = a .«data» in
-    let second : d / 256 ≡ 256 * (d / 65536) + d / 256 % 256 = omega arith in
-    let third : d / 65536 ≡ 256 * (d / 16777216) + d / 65536 % 256 = omega arith in
-    joined d (d / 256) (d / 65536) (d / 16777216) _ _ _ _ (omega arith) second third (omega arith)
+use Rattle.records.proofs.Routes.{access-facts, answered-0}
+use Rattle.records.proofs.Data.{read-done-data}
+use Rattle.records.proofs.SlotsKept.{at-readyBy}
+use Rattle.records.proofs.Leaving.{Leaves, Every, every, advancedBy, write-cases}
 
 -- ---- a record that isn't done
-
--- nothing was changed and nothing brought
-pub record Unchanged (s : State) (x : Ran State) : Type 0 where
-  pub state : x .after ≡ s
-  pub tally : x .reply .tally ≡ noTally
 
 refused-answered : (setup : Setup) (s : State) (e : Effect State) → completionNumber (answered setup s e .reply .completion) ≢ 0 → Unchanged s (answered setup s e)
 unfolding answered
@@ -79,46 +62,23 @@ refused-answered setup s (does t tally dataWord) n = absurd (n refl)
 
 -- A status other than 0 changes no register, slot status, queue cell, port bit or clock; its interrupts and counts are 0.
 pub refused-unchanged : (setup : Setup) (defaults : List ℕ) (s : State) (r : Record)
-    → completionNumber (run setup defaults s r .reply .completion) ≢ 0 → Unchanged s (run setup defaults s r)
+    → statusOf setup defaults s r ≢ 0 → Unchanged s (run setup defaults s r)
 unfolding run
 refused-unchanged setup defaults s r n = refused-answered setup s (effect setup defaults s r) n
 
 -- ---- the clock
-
--- a record 01
-abbrev pub isAdvance : Record → Bool
-isAdvance (Advance by) = true
-isAdvance (Read q) = false
-isAdvance (Write q value) = false
-isAdvance (Message m) = false
-isAdvance LinkUp = false
-isAdvance LinkDown = false
-isAdvance ColdReset = false
-isAdvance ReadQueue = false
-isAdvance RemoveOldest = false
-isAdvance (ClearBits mask) = false
-isAdvance (Control b) = false
-isAdvance (HardwareSet slot word mask) = false
-isAdvance ReadBits = false
-isAdvance NoKind = false
 
 abbrev SameClock : State → Record → State → Tally → ℕ → Type 0
 SameClock s r t tally d = isAdvance r ≡ false → t .port .clock ≡ s .port .clock
 
 -- a write changes no part of the root port, and no queue cell
 pub write-dev : (kind : Kind) (entry : Slot) (defaults : List ℕ) (q : Request) (value : ℕ) (z : Seat) → writeSeat kind entry defaults q value z .dev ≡ z .dev
-unfolding writeSeat afterFlr afterD3hot
-write-dev kind entry defaults q value z =
-    let old = wordAt (z .live) (q .slot) (q .word) in
-    either-way (λ (y : Seat). y .dev ≡ z .dev) (startsFlr kind (q .word) value (q .enables) (wordAt defaults (q .slot) (flrCapabilityWord kind))) _ _ (λ e. refl)
-    (λ e. either-way (λ (y : Seat). y .dev ≡ z .dev) (startsD3hot kind (q .word) old (writeWord kind (q .word) old value (q .enables))) _ _ (λ f. refl) (λ f. refl))
+unfolding afterFlr afterD3hot
+write-dev kind entry defaults q value z = write-cases (λ (y : Seat). y .dev ≡ z .dev) kind entry defaults q value z refl refl refl
 
 pub write-cells : (kind : Kind) (entry : Slot) (defaults : List ℕ) (q : Request) (value : ℕ) (z : Seat) → writeSeat kind entry defaults q value z .cells ≡ z .cells
-unfolding writeSeat afterFlr afterD3hot
-write-cells kind entry defaults q value z =
-    let old = wordAt (z .live) (q .slot) (q .word) in
-    either-way (λ (y : Seat). y .cells ≡ z .cells) (startsFlr kind (q .word) value (q .enables) (wordAt defaults (q .slot) (flrCapabilityWord kind))) _ _ (λ e. refl)
-    (λ e. either-way (λ (y : Seat). y .cells ≡ z .cells) (startsD3hot kind (q .word) old (writeWord kind (q .word) old value (q .enables))) _ _ (λ f. refl) (λ f. refl))
+unfolding afterFlr afterD3hot
+write-cells kind entry defaults q value z = write-cases (λ (y : Seat). y .cells ≡ z .cells) kind entry defaults q value z refl refl refl
 
 same-clock : (setup : Setup) (defaults : List ℕ) (s : State) → Every (SameClock s) setup defaults s
 unfolding frsArrive drsArrives drsSet clearedDev afterReset afterLinkDown afterColdReset
@@ -169,7 +129,7 @@ pub advance-runs : (setup : Setup) (defaults : List ℕ) (s : State) (by : Nanos
 unfolding run effect answered advances
 advance-runs setup defaults s by h = ap (answered setup s) (advance-effect by s h)
 
-plain-sum : (t by : Nanos) → t .0 + by .0 ≤ clockEnd → sumOf t by .0 ≡ t .0 + by .0
+pub plain-sum : (t by : Nanos) → t .0 + by .0 ≤ clockEnd → sumOf t by .0 ≡ t .0 + by .0
 unfolding sumOf
 plain-sum t by h = ap (λ (b : Bool). cond b (t .0 + by .0) greatestNanos) (le-leb (t .0 + by .0) greatestNanos (omega arith))
 
@@ -242,7 +202,7 @@ two-advances-are-one setup defaults s a b few h =
 -- ---- word 1Eh
 
 -- In every read of word 1Eh answered 0, data bits 15 and 21 are 0, whatever the live registers hold.
-pub device-control-reads-0 : (setup : Setup) (defaults : List ℕ) (s : State) (q : Request) → q .word ≡ 0x1E → statusOf setup defaults s (Read q) ≡ 0
+pub device-control-reads-0 : (setup : Setup) (defaults : List ℕ) (s : State) (q : Request) → q .word ≡ 0x78 / 4 → statusOf setup defaults s (Read q) ≡ 0
     → (bit (dataOf setup defaults s (Read q)) 15 ≡ false) × (bit (dataOf setup defaults s (Read q)) 21 ≡ false)
 unfolding bit
 device-control-reads-0 setup defaults s q w z = (at 15 (omega arith) refl, at 21 (omega arith) refl)
@@ -256,28 +216,6 @@ device-control-reads-0 setup defaults s q w z = (at 15 (omega arith) refl, at 21
         ∙ read-zero kind (q .word) (wordAt (s .live) (q .slot) (q .word)) (q .enables) k l (ap (λ (i : ℕ). bit (readsZero kind i) k) w ∙ device-zeros kind k ∙ e)
 
 -- ---- a slot other than the one addressed
-
--- the slot that a record 02, 03 or 0C addresses
-abbrev pub Addresses : Record → (slot : ℕ) → Type 0
-Addresses (Advance by) slot = ⊥
-Addresses (Read q) slot = q .slot ≡ slot
-Addresses (Write q value) slot = q .slot ≡ slot
-Addresses (Message m) slot = ⊥
-Addresses LinkUp slot = ⊥
-Addresses LinkDown slot = ⊥
-Addresses ColdReset slot = ⊥
-Addresses ReadQueue slot = ⊥
-Addresses RemoveOldest slot = ⊥
-Addresses (ClearBits mask) slot = ⊥
-Addresses (Control b) slot = ⊥
-Addresses (HardwareSet a word mask) slot = a ≡ slot
-Addresses ReadBits slot = ⊥
-Addresses NoKind slot = ⊥
-
--- a slot's 64 registers and its status are the same in both states
-pub record SameSlot (s t : State) (slot : ℕ) : Type 0 where
-  pub registers : (word : ℕ) → word < 64 → wordAt (t .live) slot word ≡ wordAt (s .live) slot word
-  pub status : statusAt (t .statuses) slot ≡ statusAt (s .statuses) slot
 
 -- the same, where the clock is the same
 record Left (s t : State) (slot : ℕ) : Type 0 where
@@ -293,16 +231,13 @@ elsewhere slot addressed word at n h k e = n (omega arith)
 -- a write in one slot leaves the words of every other slot
 write-live : (kind : Kind) (entry : Slot) (defaults : List ℕ) (q : Request) (value : ℕ) (z : Seat) (slot word : ℕ) → slot ≢ q .slot → word < 64 → q .word ≤ 63
     → wordAt (writeSeat kind entry defaults q value z .live) slot word ≡ wordAt (z .live) slot word
-unfolding writeSeat afterFlr afterD3hot
+unfolding afterFlr afterD3hot
 write-live kind entry defaults q value z slot word n h k =
-    either-way Same (startsFlr kind (q .word) value (q .enables) (wordAt defaults (q .slot) (flrCapabilityWord kind))) (afterFlr kind entry defaults (q .slot) w) _
-    (λ e. flr-reset-slot-others kind (q .slot) (w .live) defaults (wordPlace slot word) other ∙ here)
-    (λ e.
-    either-way Same (startsD3hot kind (q .word) old new) (afterD3hot kind entry defaults (q .slot) new w) w
-    (λ f.
-    either-way (λ (l : List ℕ). wordAt l slot word ≡ wordAt (z .live) slot word) (bit new 3) (w .live) (linkResetSlot kind (q .slot) (w .live) defaults) (λ g. here)
+    write-cases Same kind entry defaults q value z
+    (flr-reset-slot-others kind (q .slot) (w .live) defaults (wordPlace slot word) other ∙ here)
+    (either-way (λ (l : List ℕ). wordAt l slot word ≡ wordAt (z .live) slot word) (bit new 3) (w .live) (linkResetSlot kind (q .slot) (w .live) defaults) (λ g. here)
     (λ g. link-reset-slot-others kind (q .slot) (w .live) defaults (wordPlace slot word) other ∙ here))
-    (λ f. here))
+    here
   where
     Same : Seat → Type 0
     Same y = wordAt (y .live) slot word ≡ wordAt (z .live) slot word
@@ -335,7 +270,7 @@ others-left setup defaults s slot =
           record {
             clock = ap (λ (d : Dev). d .clock) (write-dev kind entry defaults q value (seatOf s (q .slot)));
             same = record {
-              registers = λ word h. write-live kind entry defaults q value (seatOf s (q .slot)) slot word m h (access-facts (setup .slots) (slotKind setup (q .slot)) (s .port) (statusAt (s .statuses) (q .slot)) false q e .0 .word);
+              registers = λ word h. write-live kind entry defaults q value (seatOf s (q .slot)) slot word m h (access-facts setup s false q e .0 .word);
               status = getD-set-other (s .statuses) (q .slot) slot _ ready m;
             };
           };
@@ -361,12 +296,6 @@ others-left setup defaults s slot =
       noKind = λ a x n. absurd x;
     }
 
-ready-by-at : (clock : Nanos) (l : List Status) (k : ℕ) → statusAt (readyBy clock l) k ≡ record { phase = phaseBy clock (statusAt l k .phase) }
-unfolding readyBy
-ready-by-at clock [] k = refl
-ready-by-at clock (s ∷ l) zero = refl
-ready-by-at clock (s ∷ l) (suc k) = ready-by-at clock l k
-
 -- a sound Pending slot's ready time is after the clock
 pub sound-later : (clock : Nanos) (c : Cause) (t : Nanos) → soundPhase clock (phase.Pending c t) ≡ true → clock .0 < t .0
 sound-later clock c t e = pending-exactly clock c t .0 e .0
@@ -386,7 +315,7 @@ answered-others setup s slot r addressed (does t tally d) h a n sound =
     record {
       registers = left .same .registers;
       status =
-          ap (λ (l : List Status). statusAt l slot) (settled-statuses setup (sceneOf t tally)) ∙ ready-by-at (t .port .clock) (t .statuses) slot
+          ap (λ (l : List Status). statusAt l slot) (settled-statuses setup (sceneOf t tally)) ∙ at-readyBy (t .port .clock) (t .statuses) slot
           ∙ ap (λ (c : Nanos). record { phase = phaseBy c (statusAt (t .statuses) slot .phase) }) (left .clock)
           ∙ ap (λ (x : Status). record { phase = phaseBy (s .port .clock) (x .phase) }) (left .same .status)
           ∙ ap (λ (p : Phase). record { phase = p }) (later-stays (s .port .clock) (statusAt (s .statuses) slot .phase) sound);

@@ -11,10 +11,13 @@ use Rattle.times.specs.declared.Nanos.{Nanos}
 use Rattle.times.specs.Moments.{sumOf, clockEnd}
 use Rattle.messages.specs.declared.Message.{Message}
 use Rattle.messages.specs.declared.Message.the-variants.{Drs, Frs, NotReadiness}
-use Rattle.registers.specs.Words.{readWord, hardwareSet}
+use Rattle.registers.specs.declared.Kind.{Kind}
+use Rattle.registers.specs.Rows.{flrCapabilityWord, startsFlr}
+use Rattle.registers.specs.Words.{readWord, writeWord, hardwareSet, startsD3hot}
 use Rattle.config_space.specs.Functions.{linkResetAll, coldReset}
 use Rattle.frs_queue.specs.declared.Tally.{Tally}
 use Rattle.frs_queue.specs.Queue.{noTally, removed, registerOf}
+use Rattle.readiness.specs.declared.Slot.{Slot}
 use Rattle.readiness.specs.declared.Status.{Status}
 use Rattle.readiness.specs.declared.Setup.{Setup}
 use Rattle.readiness.specs.declared.Dev.{Dev}
@@ -27,7 +30,7 @@ use Rattle.records.specs.declared.Record.the-variants.{Advance, Read, Wr
 use Rattle.records.specs.State.{State, state, Seat, seatOf, putBack, slotKind, wordPlace, rootOf}
 use Rattle.records.specs.Answer.{Effect, refused, does}
 use Rattle.records.specs.Route.{routeOf, isAccess}
-use Rattle.records.specs.Requests.{wordAt, writeSeat, readEffect, writeEffect, hardwareEffect}
+use Rattle.records.specs.Requests.{wordAt, written, afterFlr, afterD3hot, writeSeat, readEffect, writeEffect, hardwareEffect}
 use Rattle.records.specs.PortRecords.{Front, messageDone, messageEffect, clearedDev, controlOf, controlEffect, statusBits}
 use Rattle.readiness.specs.Fields.{withClock, withQueue, withControl}
 use Rattle.records.specs.CardRecords.{advanceEffect, linkUpEffect, linkDownEffect, coldResetEffect}
@@ -165,3 +168,16 @@ module _ (P : Record → State → Tally → ℕ → Type 0) (setup : Setup) (de
   every (HardwareSet slot word mask) = hardware-leaves slot word mask
   every ReadBits = h .readBits
   every NoKind = h .noKind
+
+-- ---- a write
+
+-- what holds of the slot after an FLR, after the way from D3hot and after any other write holds after a write
+pub write-cases : (P : Seat → Type 0) (kind : Kind) (entry : Slot) (defaults : List ℕ) (q : Request) (value : ℕ) (z : Seat)
+    → (let new = writeWord kind (q .word) (wordAt (z .live) (q .slot) (q .word)) value (q .enables) in
+    let w = written (q .slot) (q .word) new z in
+    P (afterFlr kind entry defaults (q .slot) w) → P (afterD3hot kind entry defaults (q .slot) new w) → P w → P (writeSeat kind entry defaults q value z))
+unfolding writeSeat
+write-cases P kind entry defaults q value z f d w =
+    let old = wordAt (z .live) (q .slot) (q .word) in
+    either-way P (startsFlr kind (q .word) value (q .enables) (wordAt defaults (q .slot) (flrCapabilityWord kind))) _ _ (λ e. f)
+    (λ e. either-way P (startsD3hot kind (q .word) old (writeWord kind (q .word) old value (q .enables))) _ _ (λ e. d) (λ e. w))

@@ -6,7 +6,8 @@ use mathlib.Core.List.{List, [], _∷_, _++_}
 use lib.ListN.{replicate, set, drop}
 use Rattle.readiness.specs.declared.Slot.{Slot}
 use Rattle.readiness.specs.declared.Setup.{Setup}
-use Rattle.readiness.specs.Status.{noControl, noSlot, down}
+use Rattle.readiness.specs.Status.{down}
+use Rattle.readiness.specs.Blank.{blankControl, blankSlot}
 use Rattle.readiness.specs.Settle.{advances}
 use Rattle.trace.specs.Format.{sizeOf, known, body, whole}
 use Rattle.trace.specs.Bench.{cutIn, cut, runs, plain}
@@ -18,7 +19,7 @@ use Rattle.records.proofs.Examples.{computed}
 abbrev card : Setup
 card =
     let slot : Slot = record { reset = record { 0 = 0 }; «dl_up» = record { 0 = 0x00A }; flr = record { 0 = 0x005 }; d3hot = record { 0 = 0 }; «sends_frs» = true } in
-    record { slots = 1; entries = slot ∷ replicate 31 noSlot; bus = 1; «port_id» = 8 }
+    record { slots = 1; entries = slot ∷ replicate 31 blankSlot; bus = 1; «port_id» = 8 }
 
 abbrev defaults : List ℕ
 defaults = set (set (replicate 64 0) 0 0x56781234) 0x1D 0x10000000
@@ -31,7 +32,7 @@ start =
       link = false;
       owed = false;
       «drs_received» = false;
-      control = noControl;
+      control = blankControl;
       queue = record { start = 0; depth = 0; received = false; overflow = false };
     })
     (down ∷ []) defaults (0 ∷ [])

@@ -13,8 +13,6 @@ use Rattle.times.specs.declared.Nanos.{Nanos}
 use Rattle.messages.specs.declared.Message.{Message}
 use Rattle.messages.specs.declared.Message.the-variants.{Drs, Frs, NotReadiness}
 use Rattle.registers.specs.declared.Kind.{Kind}
-use Rattle.registers.specs.Rows.{flrCapabilityWord, startsFlr}
-use Rattle.registers.specs.Words.{writeWord, startsD3hot}
 use Rattle.frs_queue.specs.Queue.{noTally}
 use Rattle.readiness.specs.declared.Cause.{Cause}
 use Rattle.readiness.specs.declared.Cause.the-variants as cause
@@ -24,10 +22,11 @@ use Rattle.readiness.specs.declared.Status.{Status}
 use Rattle.readiness.specs.declared.Slot.{Slot}
 use Rattle.readiness.specs.declared.Setup.{Setup}
 use Rattle.readiness.specs.declared.Dev.{Dev}
-use Rattle.readiness.specs.Status.{ready, readyPhase, isReady, entryOf}
+use Rattle.readiness.specs.Status.{ready, isReady, entryOf}
 use Rattle.readiness.specs.Root.{frsArrive, drsArrives, drsSet}
 use Rattle.readiness.specs.Settle.{Scene}
-use Rattle.readiness.proofs.Laws.{settle-rest, settle-one}
+use Rattle.readiness.proofs.Laws.{settle-rest}
+use Rattle.readiness.proofs.OneSlot.{settle-one}
 use Rattle.records.specs.declared.Request.{Request}
 use Rattle.records.specs.declared.Record.{Record}
 use Rattle.records.specs.declared.Record.the-variants.{Advance, Read, Write, Message as MessageRecord, LinkUp, LinkDown, ColdReset, ReadQueue, RemoveOldest, ClearBits, Control, HardwareSet, ReadBits, NoKind}
@@ -39,12 +38,14 @@ use Rattle.records.specs.declared.Part.the-variants.{OneSlot, PortAlone,
 use Rattle.records.specs.State.{State, Seat, seatOf, sceneOf, withLive, slotKind}
 use Rattle.records.specs.Answer.{Effect, refused, does, reply, answered}
 use Rattle.records.specs.Route.{pendingRoute, phaseRoute, routeOf, routeCompletion, refusedData, isAccess}
-use Rattle.records.specs.Requests.{wordAt, readDone, writeDone, written, writeSeat, afterFlr, afterD3hot, readEffect, writeEffect, hardwareEffect}
+use Rattle.records.specs.Requests.{readDone, writeDone, readEffect, writeEffect, hardwareEffect}
 use Rattle.records.specs.PortRecords.{Front, messageDone, messageEffect, clearedDev, controlEffect}
 use Rattle.records.specs.Run.{atSlot, atPort, frontOf, effect, run}
 use Rattle.records.specs.inner.Parts.{partAt, partOf, slotEffect, slotAnswered, slotRun, portEffect, portAnswered, portRun, cardEffect, cardRun, slotPut, portPut}
 use Rattle.records.specs.Sound.{Sound, Fitting}
+use Rattle.records.proofs.SoundFacts.{ready-phase}
 use Rattle.records.proofs.Resting.{Resting, sound-rests}
+use Rattle.records.proofs.Laws.{write-dev}
 
 -- ---- which part
 
@@ -101,10 +102,6 @@ at-one-slot P setup i f g h (Control b) e = port-not-slot e
 at-one-slot P setup i f g h ReadBits e = port-not-slot e
 at-one-slot P setup i f g h NoKind e = port-not-slot e
 
--- A record that touches slot i touches one that the card has.
-pub part-below : (setup : Setup) (i : ℕ) (r : Record) → partOf setup r ≡ OneSlot i → i < setup .slots
-part-below setup i = at-one-slot (λ r. i < setup .slots) setup i (λ q l e. omega arith) (λ q value l e. omega arith) (λ slot word mask l e. omega arith)
-
 -- ---- a slot that there is not
 
 -- A read, a write or a hardware set of a slot that there is not is refused with 20.
@@ -130,11 +127,6 @@ module _ (slots : ℕ) (kind : Kind) (z : Seat) where
   no-slot-set slot word mask e = when-true (not (ltb slot slots)) (refused completion.NoSlot 0) _ (ap not e)
 
 -- ---- an access finds its slot Ready
-
-ready-phase : (p : Phase) → readyPhase p ≡ true → p ≡ Ready
-ready-phase Ready e = refl
-ready-phase Down e = absurd (false≢true e)
-ready-phase (Pending c t) e = absurd (false≢true e)
 
 pub ready-status : (s : Status) → isReady s ≡ true → s ≡ ready
 ready-status s e = ap (λ (p : Phase). record { phase = p }) (ready-phase (s .phase) e)
@@ -172,21 +164,6 @@ access-ready slots kind dev status isRead q =
 abbrev pub SlotDoes : Seat → Effect Seat → Type 0
 SlotDoes z (refused c v) = Unit {0}
 SlotDoes z (does y tally v) = (z .status ≡ ready) × (y .dev ≡ z .dev)
-
--- what holds of the slot after an FLR, after the way from D3hot and after any other write holds after a write
-pub write-cases : (P : Seat → Type 0) (kind : Kind) (entry : Slot) (defaults : List ℕ) (q : Request) (value : ℕ) (z : Seat)
-    → (let new = writeWord kind (q .word) (wordAt (z .live) (q .slot) (q .word)) value (q .enables) in
-    let w = written (q .slot) (q .word) new z in
-    P (afterFlr kind entry defaults (q .slot) w) → P (afterD3hot kind entry defaults (q .slot) new w) → P w → P (writeSeat kind entry defaults q value z))
-unfolding writeSeat
-write-cases P kind entry defaults q value z f d w =
-    let old = wordAt (z .live) (q .slot) (q .word) in
-    either-way P (startsFlr kind (q .word) value (q .enables) (wordAt defaults (q .slot) (flrCapabilityWord kind))) _ _ (λ e. f)
-    (λ e. either-way P (startsD3hot kind (q .word) old (writeWord kind (q .word) old value (q .enables))) _ _ (λ e. d) (λ e. w))
-
-write-dev : (kind : Kind) (entry : Slot) (defaults : List ℕ) (q : Request) (value : ℕ) (z : Seat) → writeSeat kind entry defaults q value z .dev ≡ z .dev
-unfolding afterFlr afterD3hot
-write-dev kind entry defaults q value z = write-cases (λ (y : Seat). y .dev ≡ z .dev) kind entry defaults q value z refl refl refl
 
 module _ (slots : ℕ) (kind : Kind) (z : Seat) where
   pub read-does : (q : Request) → SlotDoes z (readEffect slots kind q z)

@@ -18,14 +18,14 @@ use Rattle.frs_queue.specs.declared.Frs.{Frs}
 use Rattle.frs_queue.specs.declared.Queue.{Queue}
 use Rattle.frs_queue.specs.Queue.{Ring, placeOf, cellOf, arrives, arriveAll, isEmpty, movedOn, removed, messagesOf}
 use Rattle.frs_queue.proofs.Places.{place-lt}
-use Rattle.frs_queue.proofs.Laws.{heldBy, messages-length, arrives-appends, arrives-length, arrives-start, arrives-depth, removed-takes-head, reason-in-cell}
+use Rattle.frs_queue.proofs.Laws.{heldBy, messages-length, arrives-appends, arrives-length, arriveAll-length, arrives-start, arrives-depth, removed-takes-head, reason-in-cell}
 use Rattle.readiness.specs.declared.Cause.{Cause}
 use Rattle.readiness.specs.declared.Cause.the-variants.{LinkUp, Flr, D3hot}
 use Rattle.readiness.specs.declared.Setup.{Setup}
 use Rattle.readiness.specs.declared.Dev.{Dev}
 use Rattle.readiness.specs.Status.{entryOf}
 use Rattle.readiness.specs.Root.{Root, ringOf, frsArrive, frsOfDrs, drsSet, drsArrives}
-use Rattle.readiness.specs.Events.{Event, due, functionId, frsReason, frsWith, frsOfSlot, frsOf}
+use Rattle.readiness.specs.Events.{Event, due, functionId, reasonAfter, frsWith, frsOfSlot, frsOf}
 use Rattle.readiness.specs.Settle.{Scene, happens, happenAll, lastOfMoment, momentEnds, drsDue, tells, settles, frsTold, frsEnding, framesOf, frsSent}
 use Rattle.records.specs.Sound.{soundCell}
 
@@ -120,14 +120,9 @@ unfolding drsArrives drsSet
 drs-keeps portId x p h = frs-keeps (frsOfDrs portId (x .dev)) (drsSet x) (drs-sound portId (x .dev) p) h
 
 -- and the number of cells
-arriveAll-cells : (enabled : Bool) (fs : List Frs) (r : Ring) → length (arriveAll enabled fs r .cells) ≡ length (r .cells)
-unfolding arriveAll
-arriveAll-cells enabled [] r = refl
-arriveAll-cells enabled (f ∷ fs) r = arriveAll-cells enabled fs (arrives enabled f r) ∙ arrives-length enabled f r
-
 pub frs-cells : (fs : List Frs) (x : Root) → length (frsArrive fs x .cells) ≡ length (x .cells)
 unfolding frsArrive
-frs-cells fs x = arriveAll-cells (x .dev .control .«frs_interrupt») fs (ringOf x)
+frs-cells fs x = arriveAll-length (x .dev .control .«frs_interrupt») fs (ringOf x)
 
 pub drs-cells : (portId : ℕ) (x : Root) → length (drsArrives portId x .cells) ≡ length (x .cells)
 unfolding drsArrives drsSet
@@ -162,10 +157,10 @@ empty-sound cells q some s d =
 pub slot-sound : (setup : Setup) (e : Event) → setup .bus < 256 → e .slot < 256 → AllSoundFrs (frsOf setup e)
 unfolding frsOf frsOfSlot
 slot-sound setup e b h =
-    either-way AllSoundFrs (entryOf setup (e .slot) .«sends_frs») (frsWith (functionId (setup .bus) (e .slot)) (frsReason (e .cause))) []
+    either-way AllSoundFrs (entryOf setup (e .slot) .«sends_frs») (frsWith (functionId (setup .bus) (e .slot)) (reasonAfter (e .cause))) []
     (λ t. by (e .cause)) (λ t. tt)
   where
-    by : (c : Cause) → AllSoundFrs (frsWith (functionId (setup .bus) (e .slot)) (frsReason c))
+    by : (c : Cause) → AllSoundFrs (frsWith (functionId (setup .bus) (e .slot)) (reasonAfter c))
     by LinkUp = tt
     by (Flr end) = ((omega arith, any-reason 3 (omega arith)), tt)
     by D3hot = ((omega arith, any-reason 2 (omega arith)), tt)

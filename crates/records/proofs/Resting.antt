@@ -1,23 +1,21 @@
--- A sound state is at rest: nothing is due, and no DRS is to be told.
-use Prim.Native.Nat.{ℕ, _<_}
+-- A sound state is at rest, and so is one after a reset: nothing is due, and no DRS is to be told.
+use Prim.Native.Nat.{ℕ, suc, _+_, _≤_, _<_}
 use native.Mathlib.Omega.{arith}
-use mathlib.Core.Path.{_≡_, refl, ap}
-use mathlib.Core.Bool.{Bool, true, false, not, _&&_, _||_, false≢true}
+use mathlib.Core.Path.{_≡_, refl, ap, _∙_}
+use mathlib.Core.Bool.{Bool, true, false, not, _&&_, _||_, cond, false≢true}
 use mathlib.Core.List.{List, [], _∷_, List·Memᴰ, List·Memᴰ·head}
 use lib.Dec.{ltb}
 use borrow.Author.Tests.{ltb-true, ltb-false}
 use Rattle.times.specs.declared.Nanos.{Nanos}
-use Rattle.frs_queue.specs.declared.Tally.{Tally}
 use Rattle.readiness.specs.declared.Cause.{Cause}
 use Rattle.readiness.specs.declared.Phase.{Phase}
 use Rattle.readiness.specs.declared.Phase.the-variants.{Pending}
 use Rattle.readiness.specs.declared.Status.{Status}
 use Rattle.readiness.specs.declared.Setup.{Setup}
-use Rattle.readiness.specs.Status.{allReady}
-use Rattle.readiness.specs.Events.{Event, due}
-use Rattle.readiness.specs.Settle.{settles}
-use Rattle.readiness.proofs.Laws.{due-order, settle-rest}
-use Rattle.records.specs.State.{State, statusAt, sceneOf}
+use Rattle.readiness.specs.Status.{ready, down, allReady, eachFrom, stoppedByReset}
+use Rattle.readiness.specs.Events.{Event, due, dueEvent, dueFrom, insertAll}
+use Rattle.readiness.proofs.Laws.{due-order}
+use Rattle.records.specs.State.{State, statusAt}
 use Rattle.records.specs.Sound.{soundPhase, Sound, Fitting}
 use Rattle.records.proofs.SoundFacts.{pending-exactly, phase-test, owed-test}
 
@@ -66,8 +64,17 @@ sound-rests setup defaults s h f =
       drs = not-owed (s .port .owed) (s .port .link) (allReady setup (s .statuses)) (owed-test h);
     }
 
--- So there settling changes nothing and brings nothing.
-pub sound-settled : (setup : Setup) (defaults : List ℕ) (s : State) (tally : Tally) → Sound setup s → Fitting setup defaults s → settles setup (sceneOf s tally) ≡ sceneOf s tally
-sound-settled setup defaults s tally h f =
-    let r = sound-rests setup defaults s h f in
-    settle-rest setup (sceneOf s tally) (r .due) (r .drs)
+-- after a reset every slot of the card is Down, and the others are Ready
+due-stopped : (k slots : ℕ) (clock : Nanos) (l : List Status) → ((i : ℕ) → slots ≤ k + i → statusAt l i ≡ ready) → dueFrom k clock (eachFrom k slots (λ i. down) l) ≡ []
+unfolding dueFrom eachFrom insertAll
+due-stopped k slots clock [] h = refl
+due-stopped k slots clock (s ∷ l) h =
+    ap (insertAll (dueEvent clock k (cond (ltb k slots) down s .phase))) (due-stopped (suc k) slots clock l (λ i e. h (suc i) (omega arith))) ∙ by (ltb k slots) refl
+  where
+    by : (b : Bool) → ltb k slots ≡ b → insertAll (dueEvent clock k (cond b down s .phase)) [] ≡ []
+    by true e = refl
+    by false e = ap (λ (x : Status). insertAll (dueEvent clock k (x .phase)) []) (h 0 (omega (arith, ltb-false k slots e)))
+
+-- A state after link down or cold reset is at rest.
+pub stopped-rests : (setup : Setup) (defaults : List ℕ) (s : State) → Fitting setup defaults s → Resting setup (s .port .clock) false (stoppedByReset setup (s .port) (s .statuses))
+stopped-rests setup defaults s f = record { due = due-stopped 0 (setup .slots) (s .port .clock) (s .statuses) (λ i e. f .past i (omega arith)); drs = refl }

@@ -3,35 +3,34 @@ use Prim.Native.Nat.{ℕ, _+_, _≤_, _<_}
 use native.Mathlib.Omega.{arith}
 use mathlib.Core.Path.{_≡_, refl, ap, sym, subst, _∙_}
 use mathlib.Core.Bool.{Bool, true, false, not, _&&_, _||_, true≢false, false≢true}
-use mathlib.Core.List.{List, [], _∷_, List·Memᴰ}
+use mathlib.Core.List.{List, List·Memᴰ}
 use lib.Dec.{leb, ltb}
 use lib.ListN.{length}
 use borrow.Author.Tests.{ltb-true, ltb-false, lt-ltb, leb-false, le-leb}
 use Rattle.bits.proofs.Choices.{either-way}
-use Rattle.bits.proofs.Tests.{both}
+use Rattle.bits.proofs.Tests.{both, both-left}
 use Rattle.times.specs.declared.Nanos.{Nanos}
 use Rattle.times.specs.Codes.{greatestTime}
 use Rattle.frs_queue.specs.declared.Tally.{Tally}
-use Rattle.readiness.specs.declared.Cause.{Cause}
 use Rattle.readiness.specs.declared.Phase.{Phase}
 use Rattle.readiness.specs.declared.Phase.the-variants.{Down, Pending, Ready}
 use Rattle.readiness.specs.declared.Status.{Status}
 use Rattle.readiness.specs.declared.Setup.{Setup}
 use Rattle.readiness.specs.declared.Control.{Control as PortControl}
 use Rattle.readiness.specs.Status.{ready, allReady}
-use Rattle.readiness.specs.Root.{frsArrive}
 use Rattle.readiness.specs.Events.{Event, due}
-use Rattle.readiness.specs.Settle.{Scene, happens, happenAll, lastOfMoment, momentEnds, drsDue, tells, settles}
-use Rattle.readiness.proofs.Order.{phaseBy}
-use Rattle.readiness.proofs.Scenes.{Kept, settled-kept, settled-statuses, told}
+use Rattle.readiness.specs.Settle.{Scene, settles}
+use Rattle.readiness.proofs.Order.{phaseBy, never-pending}
+use Rattle.readiness.proofs.Scenes.{Kept, settled-kept, settled-statuses}
 use Rattle.readiness.proofs.Laws.{due-order, settled-drs}
 use Rattle.records.specs.State.{State, statusAt, sceneOf, withLive}
 use Rattle.times.specs.Moments.{clockEnd}
 use Rattle.records.specs.Sound.{soundCause, soundPhase, matchesLink, Fitting}
+use Rattle.records.specs.StaysSound.{SoundSetup, Keeps}
 use Rattle.records.proofs.SoundFacts.{by-tests}
 use Rattle.records.proofs.QueueKept.{SoundRing, sound-cells, settle-ring}
 use Rattle.records.proofs.SlotsKept.{at-readyBy}
-use Rattle.records.proofs.Kept.{SoundSetup, Keeps}
+use Rattle.records.proofs.Sending.{told-owed}
 
 -- ---- before slots become Ready
 
@@ -68,32 +67,14 @@ link-settled link clock Ready h = h
 link-settled link clock (Pending c t) h = either-way (λ (p : Phase). matchesLink link p ≡ true) (leb (t .0) (clock .0)) Ready (Pending c t) (λ e. h) (λ e. h)
 
 -- nothing is owed after settling that wasn't before
-abbrev owed : Scene → Bool
-owed x = x .root .dev .owed
-
-tells-owed : (setup : Setup) (x : Scene) → owed (tells setup x) ≡ true → owed x ≡ true
-unfolding tells
-tells-owed setup x = either-way (λ (z : Scene). owed z ≡ true → owed x ≡ true) (drsDue setup x) (told setup x) x (λ e f. absurd (false≢true f)) (λ e f. f)
-
-happenAll-owed : (setup : Setup) (es : List Event) (x : Scene) → owed (happenAll setup es x) ≡ true → owed x ≡ true
-unfolding happenAll momentEnds happens frsArrive
-happenAll-owed setup [] x f = f
-happenAll-owed setup (e ∷ es) x f =
-    either-way (λ (z : Scene). owed z ≡ true → owed x ≡ true) (lastOfMoment e es) (tells setup (happens setup e x)) (happens setup e x)
-    (λ b. tells-owed setup (happens setup e x)) (λ b g. g) (happenAll-owed setup es _ f)
-
-settles-owed : (setup : Setup) (x : Scene) → owed (settles setup x) ≡ true → owed x ≡ true
-unfolding settles
-settles-owed setup x f = tells-owed setup x (happenAll-owed setup _ (tells setup x) f)
+settles-owed : (setup : Setup) (x : Scene) → settles setup x .root .dev .owed ≡ true → x .root .dev .owed ≡ true
+settles-owed setup x f = both-left (x .root .dev .owed) _ (sym (told-owed setup x) ∙ f)
 
 owed-sound : (owed link all : Bool) → (owed ≡ true → link ≡ true) → (owed && all) ≡ false → (not owed || (link && not all)) ≡ true
 owed-sound false link all f e = refl
 owed-sound true true false f e = refl
 owed-sound true true true f e = absurd (true≢false e)
 owed-sound true false all f e = absurd (false≢true (f refl))
-
-never-pending : (c : Cause) (t : Nanos) → Ready ≡ Pending c t → ⊥
-never-pending c t q = let z : _≡_ {A = ℕ} 0 1 = cc in omega arith
 
 module _ (setup : Setup) (good : SoundSetup setup) (defaults : List ℕ) (s : State) (fits : Fitting setup defaults s) where
   -- only the card's slots are due

@@ -4,7 +4,7 @@ use native.Mathlib.Omega.{arith}
 use mathlib.Core.Path.{_≡_, refl, ap}
 use mathlib.Core.Bool.{Bool, cond}
 use mathlib.Core.List.{List, [], _∷_}
-use lib.ListN.{length, set}
+use lib.ListN.{set}
 use borrow.Author.Tests.{le-ltb}
 use Rattle.times.specs.declared.Nanos.{Nanos}
 use Rattle.readiness.specs.declared.Status.{Status}
@@ -29,11 +29,6 @@ at-readyBy clock (s ∷ l) (suc i) = at-readyBy clock l i
 
 -- each slot of the card anew
 module _ (slots : ℕ) (f : ℕ → Status) where
-  pub length-each : (k : ℕ) (l : List Status) → length (eachFrom k slots f l) ≡ length l
-  unfolding eachFrom
-  length-each k [] = refl
-  length-each k (s ∷ l) = ap suc (length-each (suc k) l)
-
   -- past the card's slots the statuses stay
   pub each-past : (k : ℕ) (l : List Status) (i : ℕ) → slots ≤ k + i → statusAt (eachFrom k slots f l) i ≡ statusAt l i
   unfolding eachFrom

@@ -21,9 +21,9 @@ use Rattle.readiness.specs.declared.Status.{Status}
 use Rattle.readiness.specs.declared.Setup.{Setup}
 use Rattle.readiness.specs.declared.Dev.{Dev}
 use Rattle.readiness.specs.Status.{ready, down, readyPhase, isReady, allReadyFrom, allReady}
-use Rattle.records.specs.State.{State, statusAt}
+use Rattle.records.specs.State.{State, statusAt, phaseAt}
 use Rattle.times.specs.Moments.{clockEnd}
-use Rattle.records.specs.Sound.{phaseAt, soundCause, soundPhase, matchesLink, soundStatuses, soundCell, soundCells, soundOwed, sound, Sound, Fitting}
+use Rattle.records.specs.Sound.{soundCause, soundPhase, matchesLink, soundStatuses, soundCell, soundCells, soundOwed, sound, Sound, SoundExactly, Fitting}
 
 -- ---- each clause of 5
 
@@ -71,7 +71,7 @@ other-exactly link Down n = absurd (n refl)
 other-exactly link (Pending cause t) n = (λ e. e, λ e. e)
 other-exactly link Ready n = (λ e. e, λ e. e)
 
-ready-phase : (p : Phase) → readyPhase p ≡ true → p ≡ Ready
+pub ready-phase : (p : Phase) → readyPhase p ≡ true → p ≡ Ready
 ready-phase Down e = absurd (false≢true e)
 ready-phase (Pending cause t) e = absurd (false≢true e)
 ready-phase Ready e = refl
@@ -131,7 +131,7 @@ by-tests setup s clock start depth cells signalling phases links owed =
 ready-not-down : Ready ≡ Down → ⊥
 ready-not-down q = let z : _≡_ {A = ℕ} 0 1 = cc in omega arith
 
-pending-not-down : (c : Cause) (t : Nanos) → Pending c t ≡ Down → ⊥
+pub pending-not-down : (c : Cause) (t : Nanos) → Pending c t ≡ Down → ⊥
 pending-not-down c t q = let z : _≡_ {A = ℕ} 0 1 = cc in omega arith
 
 -- the tests of a sound state
@@ -203,7 +203,7 @@ facts-sound setup s h =
     (owed-test h)
 
 -- Refusal 5, the carried bytes aside: the test passes exactly on a sound state.
-pub sound-exactly : (setup : Setup) (s : State) → (sound setup s ≡ true) ↔ Sound setup s
+pub sound-exactly : (setup : Setup) (s : State) → SoundExactly setup s
 sound-exactly setup s = (sound-facts setup s, facts-sound setup s)
 
 -- ---- states that are sound

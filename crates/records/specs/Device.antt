@@ -1,4 +1,4 @@
--- The device on bytes, for the plain bench (01, "Trace").
+-- The device on bytes, for the plain bench (01, "Trace records").
 use Prim.Native.Nat.{ℕ}
 use mathlib.Core.Path.{_≡_, refl}
 use mathlib.Core.List.{List}
@@ -19,7 +19,7 @@ pub eight-bytes : (x : Ran State) → length (inBytes x .answer) ≡ 8
 unfolding inBytes answerBytes
 eight-bytes x = refl
 
--- THE DEVICE, at a set-up and its defaults: a record's bytes are decoded, and the record runs
+-- THE DEVICE, at a set-up and its defaults: a record's bytes are decoded, and the record runs. Zeros behind the bytes aren't looked at: decoding reads as many as the longest record has
 abbrev pub device : Setup → (defaults : List ℕ) → Device State
 device setup defaults =
     record {

@@ -4,7 +4,7 @@ use mathlib.Core.Bool.{not, _&&_, _||_, cond}
 use mathlib.Core.List.{List, [], _∷_}
 use lib.Dec.{eqb, ltb}
 use lib.ListN.{length}
-use Rattle.bits.specs.Bits.{bit}
+use Rattle.bits.specs.Bits.{bit, one}
 use Rattle.messages.specs.declared.Message.{Message}
 use Rattle.messages.specs.declared.Message.the-variants.{Drs, Frs, NotReadiness}
 use Rattle.frs_queue.specs.declared.Queue.{Queue}
@@ -14,7 +14,7 @@ use Rattle.readiness.specs.declared.Dev.{Dev}
 use Rattle.readiness.specs.Fields.{withDrsReceived, withControl, withQueue}
 use Rattle.readiness.specs.Root.{Root, frsArrive, drsArrives}
 use Rattle.records.specs.declared.Completion.the-variants as completion
-use Rattle.records.specs.Answer.{Effect, refused, does, one}
+use Rattle.records.specs.Answer.{Effect, refused, does}
 
 -- the root port: the device's part and the queue cells
 pub record Front : Type 0 where

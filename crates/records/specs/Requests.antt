@@ -26,11 +26,11 @@ wordAt l slot word = getD l (wordPlace slot word) 0
 abbrev pub readDone : Kind → Request → Seat → Effect Seat
 readDone kind q z = does z noTally (readWord kind (q .word) (wordAt (z .live) (q .slot) (q .word)) (q .enables))
 
--- what a finished write to a word, which was `old` and is `new`, starts: the slot's status and its registers
+-- FLR, once the write is finished: the slot Pending, its registers reset
 unfoldable pub afterFlr : Kind → Slot → (defaults : List ℕ) → (slot : ℕ) → Seat → Seat
 afterFlr kind entry defaults slot z = seat (z .dev) (startedByFlr (z .dev .clock) entry) (flrResetSlot kind slot (z .live) defaults) (z .cells)
 
--- as link down in that slot if No_Soft_Reset (44h bit 3) is 0, else no other bit changes; Pending with either
+-- PowerState from 3 to 0, with 44h now `new`: as link down in that slot if No_Soft_Reset (44h bit 3) is 0, else no other bit changes; Pending with either
 unfoldable pub afterD3hot : Kind → Slot → (defaults : List ℕ) → (slot new : ℕ) → Seat → Seat
 afterD3hot kind entry defaults slot new z =
     seat (z .dev) (startedByD3hot (z .dev .clock) entry) (cond (bit new 3) (z .live) (linkResetSlot kind slot (z .live) defaults)) (z .cells)

@@ -40,7 +40,7 @@ phaseRoute clock Down crs = route.LinkDown
 phaseRoute clock Ready crs = route.Access
 phaseRoute clock (Pending cause t) crs = pendingRoute clock cause t crs
 
--- order: 20, 21, 24, 18, then 16 or 17; the same for every kind
+-- order: 20, 21, 24, 18, then 16 or 17; the same for every kind of slot
 unfoldable pub routeOf : (slots : ℕ) → Kind → Dev → Status → (isRead : Bool) → Request → Route
 routeOf slots kind dev status isRead q =
     cond (not (ltb (q .slot) slots)) route.NoSlot
@@ -73,7 +73,7 @@ shownData enables Shown = crsData enables
 shownData enables VisibilityOff = 0
 shownData enables NotVendorId = 0
 
--- the data of a read that isn't done: with 18, FFh in enabled bytes
+-- the data of a read that isn't done (so the last line is never asked): with 18, FFh in enabled bytes
 abbrev pub readData : (enables : ℕ) → Route → ℕ
 readData enables route.NoSlot = 0
 readData enables route.NoWord = 0

@@ -41,6 +41,7 @@ effect setup defaults s (Control b) = atPort s (controlEffect b (frontOf s))
 effect setup defaults s (HardwareSet slot word mask) =
     atSlot s slot (hardwareEffect (setup .slots) (slotKind setup slot) slot word mask (seatOf s slot))
 effect setup defaults s ReadBits = atPort s (readBitsEffect (frontOf s))
+-- never run: an unknown kind gives 31
 effect setup defaults s NoKind = does s noTally 0
 
 -- A RECORD RUNS: the state after it, and its answer

@@ -1,6 +1,6 @@
 -- Soundness of port and statuses (01, "Numbers given for no", refusal 5), but for the carried bytes.
 use Prim.Native.Nat.{ℕ, _+_, _*_, _≤_, _<_}
-use mathlib.Core.Logic.{_≢_}
+use mathlib.Core.Logic.{_≢_, _↔_}
 use mathlib.Core.Path.{_≡_}
 use mathlib.Core.Bool.{Bool, true, false, not, _&&_, _||_}
 use mathlib.Core.List.{List}
@@ -19,12 +19,8 @@ use Rattle.readiness.specs.declared.Status.{Status}
 use Rattle.readiness.specs.declared.Setup.{Setup}
 use Rattle.readiness.specs.declared.Dev.{Dev}
 use Rattle.readiness.specs.Status.{ready, allReady}
-use Rattle.records.specs.State.{State, statusAt}
+use Rattle.records.specs.State.{State, statusAt, phaseAt}
 use Rattle.times.specs.Moments.{clockEnd}
-
--- a slot's phase
-abbrev pub phaseAt : State → ℕ → Phase
-phaseAt s i = statusAt (s .statuses) i .phase
 
 -- ---- the test for refusal 5
 -- an FLR end isn't after its ready time
@@ -52,7 +48,7 @@ soundStatus d s = soundPhase (d .clock) (s .phase) && matchesLink (d .link) (s .
 abbrev pub soundStatuses : (slots : ℕ) → Dev → List Status → Bool
 soundStatuses slots d l = every slots λ i. soundStatus d (statusAt l i)
 
--- a live cell is below 2^20, and its reason is one that an FRS may have
+-- a live cell is below 2^20, so that its reason is one that an FRS may have; a request to come allows fewer
 abbrev pub soundCell : ℕ → Bool
 soundCell v = ltb v 1048576 && frsAllowed (reasonIn v)
 
@@ -99,7 +95,11 @@ pub record Sound (setup : Setup) (s : State) : Type 0 where
   pub owedLink : s .port .owed ≡ true → s .port .link ≡ true
   pub owedSlots : s .port .owed ≡ true → ((i : ℕ) → phaseAt s i ≡ Ready) → ⊥
 
--- the card's slots, their registers, and nothing but Ready past the last slot
+-- THE TEST passes exactly where nothing that 5 lists is there
+abbrev pub SoundExactly : Setup → State → Type 0
+SoundExactly setup s = (sound setup s ≡ true) ↔ Sound setup s
+
+-- what a set-up that isn't refused says of lengths: the card's slots, their registers, and nothing but Ready past the last slot
 pub record Fitting (setup : Setup) (defaults : List ℕ) (s : State) : Type 0 where
   pub some : 0 < setup .slots
   pub most : setup .slots ≤ 32

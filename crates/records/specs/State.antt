@@ -1,11 +1,14 @@
 -- The device's state (01, "One trace"), and the parts of it that a record sees.
-use Prim.Native.Nat.{ℕ, _+_, _*_}
+use Prim.Native.Nat.{ℕ}
 use mathlib.Core.List.{List}
 use lib.ListN.{getD, set}
+pub use Rattle.config_space.specs.Functions.{wordPlace}
 use Rattle.frs_queue.specs.declared.Tally.{Tally}
+use Rattle.frs_queue.specs.Queue.{messagesOf}
 use Rattle.registers.specs.declared.Kind.{Kind}
 use Rattle.registers.specs.declared.Kind.the-variants.{Endpoint}
 use Rattle.readiness.specs.declared.Slot.{Slot}
+use Rattle.readiness.specs.declared.Phase.{Phase}
 use Rattle.readiness.specs.declared.Status.{Status}
 use Rattle.readiness.specs.declared.Setup.{Setup}
 use Rattle.readiness.specs.declared.Dev.{Dev}
@@ -27,9 +30,13 @@ state port statuses live cells = record { port = port; statuses = statuses; live
 abbrev pub statusAt : List Status → ℕ → Status
 statusAt l slot = getD l slot ready
 
--- where a slot's word lies in the lent registers
-abbrev pub wordPlace : (slot word : ℕ) → ℕ
-wordPlace slot word = slot * 64 + word
+-- a slot's phase
+abbrev pub phaseAt : State → (slot : ℕ) → Phase
+phaseAt s slot = statusAt (s .statuses) slot .phase
+
+-- the messages in the queue, as cell values, oldest first
+abbrev pub listOf : State → List ℕ
+listOf s = messagesOf (s .cells) (s .port .queue)
 
 -- what a slot holds, which selects the attributes of its words: by its entry in the set-up
 unfoldable pub kindOfEntry : Slot → Kind

@@ -14,7 +14,7 @@ use Rattle.registers.specs.declared.Row.{Row}
 use Rattle.registers.specs.declared.Kind.{Kind}
 use Rattle.registers.specs.declared.Kind.the-variants.{Endpoint}
 use Rattle.registers.specs.Rows.{rowOf, endpointRow, isW, isC, isS, isK, lawful, pmcsr, deviceControl, deviceZeros, readsZero, defaultMustBeZero, checkedWords, defaultAllowed, startsFlr}
-use Rattle.registers.specs.Words.{laneMask, powerState, stays, heldBit, readWord, writeBit, writeWord, resetBit, linkReset, flrReset, hardwareSet}
+use Rattle.registers.specs.Words.{powerState, stays, heldBit, readWord, writeBit, writeWord, resetBit, linkReset, flrReset, hardwareSet}
 use Rattle.registers.proofs.Rules.{every-kind, noBits, row-past}
 
 -- ---- the rule of rows
@@ -55,11 +55,6 @@ c-not-w kind i k h c = apart (isW kind i k) (isC kind i k) (isS kind i k) (isK k
 -- enables count modulo 16
 pub enables-modulo : (enables k : ℕ) → k < 32 → enabled (enables % 16) k ≡ enabled enables k
 enables-modulo enables k h = bit-low enables 4 (k / 8) (omega arith)
-
--- FFh in enabled bytes, 0 in the others
-pub lane-mask-bit : (enables k : ℕ) → k < 32 → bit (laneMask enables) k ≡ enabled enables k
-unfolding laneMask
-lane-mask-bit enables k h = bit-word (enabled enables) k h
 
 seen : (live : Bool) → (live && true && not false) ≡ live
 seen = truth 1 _ _ tt
@@ -185,10 +180,6 @@ again = truth 3 _ _ tt
 pub link-reset-twice : (kind : Kind) (i live default : ℕ) → linkReset kind i (linkReset kind i live default) default ≡ linkReset kind i live default
 unfolding linkReset
 link-reset-twice kind i live default = word-ext λ k h. rw bit-word (again _ _ _)
-
-pub flr-reset-twice : (kind : Kind) (i live default : ℕ) → flrReset kind i (flrReset kind i live default) default ≡ flrReset kind i live default
-unfolding flrReset
-flr-reset-twice kind i live default = word-ext λ k h. rw bit-word (again _ _ _)
 
 kept : (a b live default : Bool) → resetBit (a && not true && not b) live default ≡ live
 unfolding resetBit

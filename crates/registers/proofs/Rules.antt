@@ -8,13 +8,14 @@ use lib.Dec.{T, eqb, eqb→eq, ltb, ltb→lt}
 use lib.ListN.{getD}
 use borrow.Author.Tests.{ne-eqb}
 use Rattle.bits.specs.Bits.{bit}
-use Rattle.bits.proofs.Bits.{bit-none, bit-word, word-ext, word-none}
+use Rattle.bits.proofs.Bits.{bit-word, word-ext}
 use Rattle.bits.proofs.Tests.{all, all-at, and-left, and-right, truth}
 use Rattle.registers.specs.declared.Row.{Row}
 use Rattle.registers.specs.declared.Kind.{Kind}
 use Rattle.registers.specs.declared.Kind.the-variants.{Endpoint}
-use Rattle.registers.specs.Rows.{Line, line, endpointTable, find, endpointRow, rowOf, masks, startOf, sameKind, column, pmcsr, deviceCapabilities, deviceControl, deviceZeros, powerStateBits, flrByte, initiateFlr, flrCapable, readsZero, defaultMustBeZero, checkedWords, flrCapabilityWord, startsFlr}
-use Rattle.registers.specs.Words.{writeBit, resetBit, readWord, linkMask, flrMask, withDefaults, linkReset, flrReset}
+use Rattle.registers.specs.Rows.{Line, line, endpointTable, find, endpointRow, rowOf, masks, pmcsr, deviceCapabilities, deviceControl, deviceZeros, powerStateBits, flrByte, initiateFlr, flrCapable, readsZero, defaultMustBeZero, checkedWords, flrCapabilityWord, startsFlr}
+use Rattle.registers.specs.inner.Masks.{startOf, sameKind, column, linkMask, flrMask, withDefaults}
+use Rattle.registers.specs.Words.{writeBit, resetBit, linkReset, flrReset}
 
 -- ---- kinds
 
@@ -24,9 +25,6 @@ every-kind test t Endpoint = t
 
 pub same-kind : (a b : Kind) → sameKind a b ≡ true → a ≡ b
 same-kind Endpoint Endpoint e = refl
-
-pub kind-same : (kind : Kind) → sameKind kind kind ≡ true
-kind-same Endpoint = refl
 
 -- ---- rows
 
@@ -129,8 +127,3 @@ link-by-mask kind i live default = word-ext λ k h. rw bit-word refl
 pub flr-by-mask : (kind : Kind) (i live default : ℕ) → withDefaults (flrMask kind i) live default ≡ flrReset kind i live default
 unfolding withDefaults flrMask flrReset
 flr-by-mask kind i live default = word-ext λ k h. rw bit-word refl
-
--- a word that is 0 reads 0
-pub read-none : (kind : Kind) (i enables : ℕ) → readWord kind i 0 enables ≡ 0
-unfolding readWord
-read-none kind i enables = word-none (λ k l. rw (bit-none k) refl)

@@ -1,4 +1,5 @@
--- The attributes of the words of configuration space, by a slot's kind and a word's number.
+-- The attributes of the words of configuration space, by a slot's kind and a word's number. 01 has one kind of slot, an endpoint function; kinds are
+-- named for requests to come.
 use Prim.Native.Nat.{ℕ, zero, suc, _*_, _/_}
 use mathlib.Core.Bool.{Bool, not, _&&_, _||_, cond}
 use mathlib.Core.List.{List, [], _∷_}
@@ -42,7 +43,7 @@ endpointRow i = find endpointTable (i * 4)
 unfoldable pub rowOf : Kind → ℕ → Row
 rowOf Endpoint i = endpointRow i
 
--- the masks W, C, S, K of n words in a row, from word i on
+-- the four masks of n words, one after the other, from word i on
 unfoldable pub flat : (ℕ → Row) → (i n : ℕ) → List ℕ
 flat f i zero = []
 flat f i (suc n) = f i .w ∷ f i .c ∷ f i .s ∷ f i .k ∷ flat f (suc i) n
@@ -51,18 +52,6 @@ flat f i (suc n) = f i .w ∷ f i .c ∷ f i .s ∷ f i .k ∷ flat f (suc i) n
 unfoldable pub masks : List ℕ
 unfolding rowOf endpointRow flat
 masks = flat (rowOf Endpoint) 0 64
-
--- where the masks of a kind start
-abbrev pub startOf : Kind → ℕ
-startOf Endpoint = 0
-
--- two kinds are the same: each has its own place in the table
-abbrev pub sameKind : (a b : Kind) → Bool
-sameKind a b = eqb (startOf a) (startOf b)
-
--- a row's masks in order
-abbrev pub column : ℕ → Row → ℕ
-column j r = getD (r .w ∷ r .c ∷ r .s ∷ r .k ∷ []) j 0
 
 -- bit k of word i is in W, in C, in S, in K
 abbrev pub isW : Kind → (i k : ℕ) → Bool

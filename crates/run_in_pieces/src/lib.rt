@@ -1,12 +1,9 @@
 // A trace fed in pieces, after set-up, over lent memory.
 ghost use mathlib.Core.Path.{_≡_};
 ghost use Prim.Native.Nat.{_<_, _≤_};
-ghost use lib.ListN.{replicate};
-ghost use Rattle.readiness.specs.Status.{down};
-ghost use Rattle.records.specs.Blank.{blankPort};
 ghost use Rattle.demand3.specs.Held.{held, lentOf};
 ghost use Rattle.feed.specs.Left.{left};
-ghost use Rattle.trace_in_pieces.specs.Pieces.{pieceOf, inPieces, runsOn};
+ghost use Rattle.trace_in_pieces.specs.Pieces.{blankHeld, pieceOf, inPieces, runsOn};
 use feed::Fed;
 use readiness::Setup;
 use readiness::Status;
@@ -96,7 +93,7 @@ pub fn run_over(
     answers: &mut [u8],
 ) -> Fed
     ensures { λ r. ⌜ left (setup .slots) r (now (live .exit)) (now (cells .exit)) (now (answers .exit))
-        ≡ runsOn setup (now (defaults .entry)) size (held blankPort (lentOf (setup .slots) (replicate 32 down)) (now (live .entry)) (now (cells .entry))) (now (trace .entry)) (now (answers .entry)) ⌝ }
+        ≡ runsOn setup (now (defaults .entry)) size (blankHeld setup (now (live .entry)) (now (cells .entry))) (now (trace .entry)) (now (answers .entry)) ⌝ }
 {
     let made = set_up::set_up(
         setup,

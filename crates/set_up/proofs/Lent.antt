@@ -10,6 +10,7 @@ use lib.ListN.{length, getD, take, drop, set, replicate, length-append, length-t
 use lib.Seq.{length-take-le, drop-cons, set-at}
 use Rattle.readiness.specs.declared.Status.{Status}
 use Rattle.readiness.specs.Status.{ready, eachFrom}
+use Rattle.readiness.proofs.Clauses.{each-length}
 use Rattle.demand3.specs.Held.{lentOf}
 
 -- as many as are lent
@@ -29,14 +30,9 @@ each-take j m zero f l = refl
 each-take j m (suc n) f [] = refl
 each-take j m (suc n) f (s ∷ l) = ap (λ (r : List Status). cond (ltb j m) (f j) s ∷ r) (each-take (suc j) m n f l)
 
-length-each : (j m : ℕ) (f : ℕ → Status) (l : List Status) → length (eachFrom j m f l) ≡ length l
-unfolding eachFrom
-length-each j m f [] = refl
-length-each j m f (s ∷ l) = ap suc (length-each (suc j) m f l)
-
 pub each-lent : (m n : ℕ) (f : ℕ → Status) (l : List Status) → n ≤ length l → lentOf n (eachFrom 0 m f l) ≡ eachFrom 0 m f (lentOf n l)
 each-lent m n f l h =
-    lent-take n (eachFrom 0 m f l) (omega (arith, length-each 0 m f l))
+    lent-take n (eachFrom 0 m f l) (omega (arith, each-length 0 m f l))
     ∙ each-take 0 m n f l
     ∙ ap (eachFrom 0 m f) (sym (lent-take n l h))
 

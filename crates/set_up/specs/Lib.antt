@@ -1,1 +1,2 @@
-pub mod inner
+pub mod Prepared
+pub mod Lent

@@ -5,7 +5,7 @@ mod lending; // the queue cells
 ghost use mathlib.Core.Path.{_≡_};
 ghost use Rattle.demand3.specs.Held.{held, lentOf};
 ghost use Rattle.demand3.specs.SettingUp.{setsUp};
-ghost use Rattle.set_up.specs.inner.Prepared.{prepared};
+ghost use Rattle.set_up.specs.Prepared.{prepared};
 use lending::clear_cells;
 use readiness::Setup;
 use readiness::Status;
@@ -31,7 +31,8 @@ pub fn set_up(
     defaults: &[u32],
     cells: &mut [u32],
 ) -> SetUp
-    ensures { λ r. ⌜ prepared lent r (now (live .exit)) (now (cells .exit)) ≡ setsUp setup (now (defaults .entry)) (held port (lentOf lent statuses) (now (live .entry)) (now (cells .entry))) ⌝ }
+    ensures { λ r. ⌜ prepared lent r (now (live .exit)) (now (cells .exit))
+        ≡ setsUp setup (now (defaults .entry)) (held port (lentOf lent statuses) (now (live .entry)) (now (cells .entry))) ⌝ }
 {
     let no = set_up_refusal(setup, lent, live.len(), defaults, cells.len());
     if no != 0 {

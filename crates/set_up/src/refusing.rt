@@ -4,12 +4,11 @@ ghost use mathlib.Core.List.{List};
 ghost use Prim.Native.Nat.{ℕ, _+_, _*_, _≤_, _<_};
 ghost use lib.ListN.{length, take};
 ghost use Rattle.registers.specs.Rows.{checkedWords};
-ghost use Rattle.readiness.specs.inner.Phases.{statusesIn};
 ghost use Rattle.trace.specs.Format.{begun};
 ghost use Rattle.trace.specs.Lent.{refusalOr31};
-ghost use Rattle.demand3.specs.Held.{held};
 ghost use Rattle.demand3.specs.Refusals.{lengthsFit, queueFits, codesAllowed, allCodesAllowed, wordsAllowed, allDefaultsAllowed, firstFailed, setUpTests, soundCarried};
 ghost use Rattle.demand3.specs.Feeding.{bench};
+ghost use Rattle.set_up.specs.Lent.{heldIn};
 use decode::gathering::size_of;
 use execute::kinds::kind_of_entry;
 use execute::soundness::is_sound;
@@ -161,7 +160,8 @@ pub fn refusal(
     defaults: &[u32],
     cells: &[u32],
 ) -> u8
-    ensures { λ r. ⌜ ((words : List ℕ) → length words ≡ live → r ≡ refusalOr31 (bench setup (now (defaults .entry))) (held port (statusesIn (now (phases .entry))) words (now (cells .entry)))) ⌝ }
+    ensures { λ r. ⌜ ((words : List ℕ) → length words ≡ live
+        → r ≡ refusalOr31 (bench setup (now (defaults .entry))) (heldIn port (now (phases .entry)) words (now (cells .entry)))) ⌝ }
 {
     let no = set_up_refusal(setup, phases.len() / 3, live, defaults, cells.len());
     if no != 0 {

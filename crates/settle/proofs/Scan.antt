@@ -9,22 +9,20 @@ use lib.Dec.{eqb, ltb}
 use lib.ListN.{length, getD, set, List·getD-eq-default}
 use lib.Seq.{getD-set-same, getD-set-other}
 use borrow.Author.Tests.{eqb-true, eqb-false, ltb-true, ltb-false}
-use Rattle.bits.proofs.Lists.{getD-any}
 use Rattle.times.specs.declared.Nanos.{Nanos}
 use Rattle.readiness.specs.declared.Cause.{Cause}
 use Rattle.readiness.specs.declared.Phase.{Phase}
 use Rattle.readiness.specs.declared.Phase.the-variants.{Down, Pending, Ready}
 use Rattle.readiness.specs.declared.Status.{Status}
 use Rattle.readiness.specs.declared.Slot.{Slot}
-use Rattle.settle.specs.declared.Due.{Due}
 use Rattle.settle.specs.declared.Due.the-variants.{Nothing, At}
 use Rattle.readiness.specs.Status.{ready}
 use Rattle.readiness.specs.Root.{frsArrive}
 use Rattle.readiness.specs.Events.{Event, reached, dueEvent, due, frsOfSlot}
 use Rattle.settle.specs.inner.Next.{firstDue}
-use Rattle.readiness.proofs.Order.{each-mem}
+use Rattle.readiness.proofs.Order.{each-mem, never-pending}
 use Rattle.readiness.proofs.Laws.{InOrder, due-order, due-unique}
-use Rattle.readiness.specs.Settle.{SlotScene, slotHappens, slotSettles}
+use Rattle.readiness.specs.inner.OneSlot.{SlotScene, slotHappens, slotSettles}
 
 -- nothing is due where there is no first
 pub none-due : (l : List Event) → firstDue l ≡ Nothing → l ≡ []
@@ -64,9 +62,6 @@ slot-readies bus entry slot x i cause t e = go (x .status .phase) e
     go (Pending d u) q = at (reached (x .root .dev .clock) u) d u q
 
 -- ---- the first of the events that are due, and the others
-
-never-pending : (c : Cause) (t : Nanos) → Ready ≡ Pending c t → ⊥
-never-pending c t q = let z : _≡_ {A = ℕ} 0 1 = cc in omega arith
 
 -- a slot that is Pending is there
 pending-there : (l : List Status) (i : ℕ) (c : Cause) (t : Nanos) → getD l i ready .phase ≡ Pending c t → i < length l

@@ -1,14 +1,14 @@
 -- The statuses of the card's slots, changed slot by slot.
-use Prim.Native.Nat.{ℕ, zero, suc, _+_, _≤_, _<_}
+use Prim.Native.Nat.{ℕ, zero, suc, _+_, _≤_, _<_, min}
 use native.Mathlib.Numerals.{add-one}
 use native.Mathlib.Omega.{arith}
 use mathlib.Core.Path.{_≡_, refl, sym, ap, ap₂, _∙_}
-use mathlib.Core.Bool.{Bool, true, false, _&&_, cond}
+use mathlib.Core.Bool.{Bool, true, _&&_, cond}
 use mathlib.Core.List.{List, [], _∷_, _++_}
-use lib.Dec.{ltb}
 use lib.ListN.{length, getD, take, drop, set, drop-of-length-le}
 use lib.Seq.{take-suc, take-suc-set, take-all, drop-cons}
-use borrow.Author.Tests.{lt-ltb, le-ltb, ltb-true, ltb-false}
+use borrow.Author.Tests.{lt-ltb, le-ltb}
+use Rattle.bits.proofs.Numbers.{by-le}
 use Rattle.readiness.specs.declared.Status.{Status}
 use Rattle.readiness.specs.declared.Setup.{Setup}
 use Rattle.readiness.specs.Status.{isReady, allReadyFrom, eachFrom}
@@ -66,17 +66,8 @@ module _ (f : ℕ → Status) where
       let b : j < m = omega arith in
       ap₂ (λ (v : Bool) (r : List Status). cond v (f j) s ∷ r) (lt-ltb j n a ∙ sym (lt-ltb j m b)) (each-past (suc j) n m l (omega arith) (omega arith))
 
-  pub each-held : (slots : ℕ) (l : List Status) → length l ≡ 32 → eachFrom 0 (cond (ltb slots 32) slots 32) f l ≡ eachFrom 0 slots f l
-  each-held slots l e = go (ltb slots 32) refl
-    where
-      go : (b : Bool) → ltb slots 32 ≡ b → eachFrom 0 (cond b slots 32) f l ≡ eachFrom 0 slots f l
-      go true h = refl
-      go false h = let k = ltb-false slots 32 h in each-past 0 32 slots l (omega arith) (omega arith)
-
--- at most 32
-pub held-most : (slots n : ℕ) → n ≡ cond (ltb slots 32) slots 32 → n ≤ 32
-held-most slots n e = go (ltb slots 32) refl e
-  where
-    go : (b : Bool) → ltb slots 32 ≡ b → n ≡ cond b slots 32 → n ≤ 32
-    go true h e = omega (arith, ltb-true slots 32 h)
-    go false h e = omega arith
+  pub each-held : (slots : ℕ) (l : List Status) → length l ≡ 32 → eachFrom 0 (min slots 32) f l ≡ eachFrom 0 slots f l
+  each-held slots l e =
+      by-le slots 32
+      (λ h. let m : min slots 32 ≡ slots = omega arith in ap (λ (n : ℕ). eachFrom 0 n f l) m)
+      (λ h. each-past 0 (min slots 32) slots l (omega arith) (omega arith))

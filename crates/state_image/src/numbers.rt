@@ -6,6 +6,7 @@ ghost use lib.Seq.{sets};
 ghost use Rattle.bits.specs.Bits.{one};
 ghost use Rattle.state_layout.specs.Numbers.{lowFirst, numberAt, wordBytes, wordsIn};
 pub use bits::byte_at;
+use bits::one_if;
 use bits::u16_of_u8;
 use bits::u32_of_u8;
 use bits::u64_of_u32;
@@ -62,12 +63,6 @@ pub fn put(bytes: &mut [u8], at: usize, b: u8)
     if at < bytes.len() {
         bytes[at] = b;
     }
-}
-
-fn one_if(b: bool) -> u8
-    ensures { λ r. ⌜ r ≡ one b ⌝ }
-{
-    if b { 1 } else { 0 }
 }
 
 // Yes as 1, no as 0.

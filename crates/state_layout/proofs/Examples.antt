@@ -1,15 +1,15 @@
 -- A whole state image, byte by byte, and one that is read.
 use Prim.Native.Nat.{ℕ}
 use mathlib.Core.Path.{_≡_, refl}
-use mathlib.Core.Bool.{Bool, true, false}
+use mathlib.Core.Bool.{true, false}
 use mathlib.Core.List.{List, [], _∷_, _++_}
 use lib.ListN.{replicate, drop, set}
 use Rattle.bits.specs.Lists.{listed}
-use Rattle.readiness.specs.declared.Cause.the-variants.{LinkUp, Flr, D3hot}
+use Rattle.readiness.specs.declared.Cause.the-variants.{Flr, D3hot}
 use Rattle.readiness.specs.declared.Status.{Status}
 use Rattle.readiness.specs.Status.{down, pending, ready}
 use Rattle.records.specs.declared.Port.{Port}
-use Rattle.state_layout.specs.Numbers.{lowFirst, numberOf, numberAt, wordBytes, wordsIn}
+use Rattle.state_layout.specs.Numbers.{lowFirst, numberOf, numberAt, wordBytes}
 use Rattle.state_layout.specs.Image.{singleBytes, devBytes, upTo, portBytes, statusBytes, statusesBytes, stateBytes}
 use Rattle.state_layout.specs.Reading.{goodPort, goodStatus, goodStatuses, isGood, bytesFrom, portIn, statusIn, statusesInBytes}
 

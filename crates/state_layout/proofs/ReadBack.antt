@@ -1,15 +1,16 @@
 -- What is read from a state image that was written: the state.
-use Prim.Native.Nat.{ℕ, zero, suc, _+_, _-_, _*_, _%_, _<_, _≤_}
+use Prim.Native.Nat.{ℕ, zero, suc, _+_, _-_, _*_, _%_, _<_}
 use mathlib.Core.Path.{_≡_, refl, ap, sym, _∙_}
-use mathlib.Core.Bool.{Bool, true, false, _&&_}
+use mathlib.Core.Bool.{Bool, true, false}
 use mathlib.Core.List.{List, [], _∷_, _++_, append-assoc}
 use native.Mathlib.Omega.{arith}
 use native.Mathlib.Nat.{zero-add}
 use lib.Dec.{eqb, leb}
-use lib.ListN.{length, take, drop, getD, replicate, length-append, List·getD-append}
+use lib.ListN.{length, drop, getD, replicate, length-append, List·getD-append}
 use lib.Seq.{getD-at, getD-append-add, drop-at}
 use Rattle.bits.specs.Bits.{one}
-use Rattle.bits.specs.Lists.{listed}
+use Rattle.bits.proofs.Bits.{is-one}
+use Rattle.bits.proofs.Tests.{both}
 use Rattle.bits.proofs.Lists.{is-listed}
 use Rattle.readiness.specs.declared.Cause.the-variants.{LinkUp, Flr, D3hot}
 use Rattle.readiness.specs.declared.Phase.{Phase}
@@ -20,7 +21,8 @@ use Rattle.readiness.specs.Status.{down}
 use Rattle.records.specs.declared.Port.{Port}
 use Rattle.state_layout.specs.Numbers.{lowFirst, numberOf, numberAt}
 use Rattle.state_layout.specs.Image.{singleBytes, devBytes, upTo, portBytes, readyTime, flrEnd, statusBytes, statusesBytes, stateBytes}
-use Rattle.state_layout.specs.Reading.{goodPort, goodStatus, goodStatuses, isGood, bytesFrom, byteAt, portIn, statusIn, statusesInBytes}
+use Rattle.bits.specs.Bytes.{byteAt}
+use Rattle.state_layout.specs.Reading.{goodPort, goodStatus, goodStatuses, isGood, bytesFrom, portIn, statusIn, statusesInBytes}
 use Rattle.state_layout.proofs.Numbers.{room, number-low}
 
 -- ---- Lengths
@@ -49,16 +51,9 @@ length-statuses [] = refl
 length-statuses (s ∷ l) = length-append (statusBytes s) (statusesBytes l) ∙ omega (arith, length-status s, length-statuses l)
 
 -- ---- A yes/no byte
-yes-one : (b : Bool) → eqb (one b) 1 ≡ b
-yes-one true = refl
-yes-one false = refl
-
 yes-or-no : (b : Bool) → leb (one b) 1 ≡ true
 yes-or-no true = refl
 yes-or-no false = refl
-
-both : {a b : Bool} → a ≡ true → b ≡ true → (a && b) ≡ true
-both {a} {b} e f = ap (λ (x : Bool). x && b) e ∙ f
 
 -- ---- The port
 -- numbers that the layout has room for: what ports of the code have, as long as the count of carried bytes is below 256 and the queue
@@ -84,11 +79,11 @@ module _ (p : Port) (rest : List ℕ) (e : length (p .carried) ≡ 16) where
   long : length bytes ≡ 16
   long = length-up-to (p .«carried_len») (p .carried) ∙ e
 
-  broken-back : byteAt 45 (portBytes p ++ rest) ≡ one (p .broken)
+  broken-back : byteAt (portBytes p ++ rest) 45 ≡ one (p .broken)
   unfolding portBytes devBytes singleBytes lowFirst
   broken-back = ap (λ (l : List ℕ). getD l 16 0) (append-assoc bytes (one (p .broken) ∷ []) rest) ∙ getD-at bytes (one (p .broken)) rest 0 16 long
 
-  carried-at : (i : ℕ) → i < 16 → getD bytes i 0 ≡ byteAt (29 + i) (portBytes p ++ rest)
+  carried-at : (i : ℕ) → i < 16 → getD bytes i 0 ≡ byteAt (portBytes p ++ rest) (29 + i)
   unfolding portBytes devBytes singleBytes lowFirst
   carried-at i h =
       sym (List·getD-append bytes (one (p .broken) ∷ rest) 0 i (omega (arith, h, long)))
@@ -97,17 +92,17 @@ module _ (p : Port) (rest : List ℕ) (e : length (p .carried) ≡ 16) where
 
   carried-back : bytesFrom 16 29 (portBytes p ++ rest) ≡ bytes
   unfolding bytesFrom
-  carried-back = sym (is-listed bytes 16 (λ i. byteAt (29 + i) (portBytes p ++ rest)) long carried-at)
+  carried-back = sym (is-listed bytes 16 (λ i. byteAt (portBytes p ++ rest) (29 + i)) long carried-at)
 
   good-port : goodPort (portBytes p ++ rest) ≡ true
   unfolding goodPort portBytes devBytes singleBytes lowFirst numberAt numberOf
   good-port =
       let d = p .dev in
-      both
-      (both
-      (both
-      (both
-      (both (both (both (yes-or-no (d .link)) (yes-or-no (d .owed))) (yes-or-no (d .queue .received))) (yes-or-no (d .queue .overflow)))
+      both _ _
+      (both _ _
+      (both _ _
+      (both _ _
+      (both _ _ (both _ _ (both _ _ (yes-or-no (d .link)) (yes-or-no (d .owed))) (yes-or-no (d .queue .received))) (yes-or-no (d .queue .overflow)))
       (yes-or-no (d .«drs_received»)))
       (yes-or-no (d .control .visibility)))
       (yes-or-no (d .control .«frs_interrupt»)))
@@ -123,21 +118,21 @@ module _ (p : Port) (rest : List ℕ) (e : length (p .carried) ≡ 16) where
         dev =
             record {
               clock = record { 0 = number-low 8 (d .clock .0) (f .clock) i };
-              link = yes-one (d .link) i;
-              owed = yes-one (d .owed) i;
-              «drs_received» = yes-one (d .«drs_received») i;
-              control = record { visibility = yes-one (d .control .visibility) i; «frs_interrupt» = yes-one (d .control .«frs_interrupt») i; signalling = d .control .signalling };
+              link = is-one (d .link) i;
+              owed = is-one (d .owed) i;
+              «drs_received» = is-one (d .«drs_received») i;
+              control = record { visibility = is-one (d .control .visibility) i; «frs_interrupt» = is-one (d .control .«frs_interrupt») i; signalling = d .control .signalling };
               queue =
                   record {
                     start = number-low 2 (d .queue .start) (f .start) i;
                     depth = number-low 2 (d .queue .depth) (f .depth) i;
-                    received = yes-one (d .queue .received) i;
-                    overflow = yes-one (d .queue .overflow) i;
+                    received = is-one (d .queue .received) i;
+                    overflow = is-one (d .queue .overflow) i;
                   };
             };
         carried = carried-back i;
         «carried_len» = count-back (p .«carried_len») (f .count) i;
-        broken = (ap (λ (b : ℕ). eqb b 1) broken-back ∙ yes-one (p .broken)) i;
+        broken = (ap (λ (b : ℕ). eqb b 1) broken-back ∙ is-one (p .broken)) i;
       }
 
 -- ---- The statuses
@@ -172,8 +167,8 @@ none-good = refl
 good-statuses : (n : ℕ) (l : List Status) → goodStatuses n (statusesBytes l) ≡ true
 unfolding goodStatuses statusesBytes
 good-statuses zero l = refl
-good-statuses (suc n) [] = both none-good (good-statuses n [])
-good-statuses (suc n) (s ∷ l) = both (good-phase (s .phase) (statusesBytes l)) (ap (goodStatuses n) (drop-at (statusBytes s) (statusesBytes l) 27 (length-status s)) ∙ good-statuses n l)
+good-statuses (suc n) [] = both _ _ none-good (good-statuses n [])
+good-statuses (suc n) (s ∷ l) = both _ _ (good-phase (s .phase) (statusesBytes l)) (ap (goodStatuses n) (drop-at (statusBytes s) (statusesBytes l) 27 (length-status s)) ∙ good-statuses n l)
 
 none-down : statusIn [] ≡ down
 unfolding statusIn numberAt
@@ -208,7 +203,7 @@ module _ (p : Port) (l : List Status) (f : Fits p) where
   -- what was written is a good image
   pub written-good : isGood (stateBytes p l) ≡ true
   unfolding isGood
-  written-good = both (port-good p l f) (ap (goodStatuses 32) past ∙ good-statuses 32 l)
+  written-good = both _ _ (port-good p l f) (ap (goodStatuses 32) past ∙ good-statuses 32 l)
 
   -- from it the port is read, with its carried bytes past the count as 0
   pub port-read-back : portIn (stateBytes p l) ≡ kept p

@@ -1,22 +1,23 @@
 -- A state image piece by piece: what is stored or read next, and what is left then.
 use Prim.Native.Nat.{ℕ, zero, suc, _+_, _*_, _-_, _/_, _%_, _<_, _≤_}
 use mathlib.Core.Path.{_≡_, refl, ap, sym, _∙_}
-use mathlib.Core.Bool.{Bool, true, false, not, _&&_, _||_, cond}
+use mathlib.Core.Bool.{true, not, _&&_, _||_, cond}
 use mathlib.Core.List.{List, [], _∷_, _++_}
 use native.Mathlib.Omega.{arith}
 use native.Mathlib.Nat.{add-zero, add-suc}
 use native.Mathlib.Numerals.{add-one}
 use lib.Dec.{eqb, leb, ltb}
 use lib.ListN.{length, take, drop, getD, set, drop-of-length-le, length-append}
-use lib.Seq.{sets, drop-cons, drop-drop, drop-length, getD-drop}
+use lib.Seq.{sets, drop-cons, drop-drop, getD-drop}
 use borrow.Author.Tests.{ltb-true, ltb-false}
 use Rattle.bits.proofs.Choices.{either-way}
 use Rattle.bits.specs.Bits.{one}
 use Rattle.readiness.specs.declared.Status.{Status}
 use Rattle.records.specs.declared.Port.{Port}
 use Rattle.state_layout.specs.Numbers.{lowFirst, numberOf, numberAt, wordBytes, wordsIn}
-use Rattle.state_layout.specs.Image.{notKept, devBytes, upTo, portBytes, stateBytes, phaseByte, causeByte, readyTime, flrEnd, statusBytes, statusesBytes}
-use Rattle.state_layout.specs.Reading.{byteAt, timeAt, goodStatus, goodStatuses, causeIn, phaseIn, statusIn, statusesInBytes}
+use Rattle.state_layout.specs.Image.{devBytes, upTo, portBytes, stateBytes, phaseByte, causeByte, readyTime, flrEnd, statusBytes, statusesBytes}
+use Rattle.bits.specs.Bytes.{byteAt}
+use Rattle.state_layout.specs.Reading.{timeAt, goodStatus, goodStatuses, causeIn, phaseIn, statusIn, statusesInBytes}
 use Rattle.state_layout.proofs.Stores.{sets-next}
 use Rattle.state_layout.proofs.Numbers.{two-bytes, four-bytes, eight-bytes}
 use Rattle.state_layout.proofs.ReadBack.{length-up-to, length-dev, length-port, length-statuses}
@@ -33,17 +34,17 @@ number-past : (n k at : ℕ) (l : List ℕ) → numberAt n k (drop at l) ≡ num
 unfolding numberAt
 number-past n k at l = ap (λ (r : List ℕ). numberOf (take n r)) (drop-drop k at l)
 
-byte-past : (k at : ℕ) (l : List ℕ) → byteAt k (drop at l) ≡ byteAt (at + k) l
+byte-past : (k at : ℕ) (l : List ℕ) → byteAt (drop at l) k ≡ byteAt l (at + k)
 byte-past k at l = getD-drop at l k 0
 
-first-past : (at : ℕ) (l : List ℕ) → byteAt 0 (drop at l) ≡ byteAt at l
+first-past : (at : ℕ) (l : List ℕ) → byteAt (drop at l) 0 ≡ byteAt l at
 first-past at l = byte-past 0 at l ∙ ap (λ (k : ℕ). getD l k 0) (add-zero at)
 
-pub two-at : (at : ℕ) (l : List ℕ) → numberAt 2 at l ≡ byteAt at l + 256 * byteAt (at + 1) l
+pub two-at : (at : ℕ) (l : List ℕ) → numberAt 2 at l ≡ byteAt l at + 256 * byteAt l (at + 1)
 unfolding numberAt
 two-at at l = two-bytes (drop at l) ∙ λ i. first-past at l i + 256 * byte-past 1 at l i
 
-pub four-at : (at : ℕ) (l : List ℕ) → numberAt 4 at l ≡ byteAt at l + 256 * byteAt (at + 1) l + 65536 * byteAt (at + 2) l + 16777216 * byteAt (at + 3) l
+pub four-at : (at : ℕ) (l : List ℕ) → numberAt 4 at l ≡ byteAt l at + 256 * byteAt l (at + 1) + 65536 * byteAt l (at + 2) + 16777216 * byteAt l (at + 3)
 unfolding numberAt
 four-at at l = four-bytes (drop at l) ∙ λ i. first-past at l i + 256 * byte-past 1 at l i + 65536 * byte-past 2 at l i + 16777216 * byte-past 3 at l i
 
@@ -152,13 +153,13 @@ length-statuses-in (suc n) l = ap suc (length-statuses-in n (drop 27 l))
 -- ---- A status by its fields
 pub good-at : (at : ℕ) (l : List ℕ)
     → goodStatus (drop at l)
-    ≡ (leb (byteAt at l) 2 && leb (byteAt (at + 1) l) 3 && (not (eqb (byteAt at l) 1) || not (eqb (byteAt (at + 1) l) 0)) && eqb (byteAt (at + 18) l) 0)
+    ≡ (leb (byteAt l at) 2 && leb (byteAt l (at + 1)) 3 && (not (eqb (byteAt l at) 1) || not (eqb (byteAt l (at + 1)) 0)) && eqb (byteAt l (at + 18)) 0)
 unfolding goodStatus
 good-at at l =
     λ i. leb (first-past at l i) 2 && leb (byte-past 1 at l i) 3 && (not (eqb (first-past at l i) 1) || not (eqb (byte-past 1 at l i) 0)) && eqb (byte-past 18 at l i) 0
 
 pub status-at : (at : ℕ) (l : List ℕ)
-    → statusIn (drop at l) ≡ record { phase = phaseIn (byteAt at l) (causeIn (byteAt (at + 1) l) (timeAt (at + 10) l)) (timeAt (at + 2) l) }
+    → statusIn (drop at l) ≡ record { phase = phaseIn (byteAt l at) (causeIn (byteAt l (at + 1)) (timeAt (at + 10) l)) (timeAt (at + 2) l) }
 unfolding statusIn
 status-at at l =
     λ i. record { phase = phaseIn (first-past at l i) (causeIn (byte-past 1 at l i) (record { 0 = number-past 8 10 at l i })) (record { 0 = number-past 8 2 at l i }) }

@@ -11,7 +11,8 @@ use Rattle.frs_queue.specs.declared.Queue.{Queue}
 use Rattle.readiness.specs.declared.Control.{Control}
 use Rattle.readiness.specs.declared.Dev.{Dev}
 use Rattle.records.specs.declared.Port.{Port}
-use Rattle.state_layout.specs.Numbers.{lowFirst, numberAt, byteAt, timeAt, yes}
+use Rattle.bits.specs.Bytes.{byteAt}
+use Rattle.state_layout.specs.Numbers.{lowFirst, numberAt, timeAt, yes}
 
 -- the moment of the last reset, a slot's set of children and the end of its change: nothing keeps one yet
 abbrev pub notKept : ℕ
@@ -31,7 +32,7 @@ singleBytes d =
     ∷ []
 
 abbrev pub controlIn : List ℕ → Control
-controlIn l = record { visibility = yes 21 l; «frs_interrupt» = yes 22 l; signalling = byteAt 23 l }
+controlIn l = record { visibility = yes 21 l; «frs_interrupt» = yes 22 l; signalling = byteAt l 23 }
 
 abbrev pub queueIn : List ℕ → Queue
 queueIn l = record { start = numberAt 2 24 l; depth = numberAt 2 26 l; received = yes 18 l; overflow = yes 19 l }

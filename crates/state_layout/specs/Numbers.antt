@@ -3,7 +3,8 @@ use Prim.Native.Nat.{ℕ, zero, suc, _+_, _*_, _/_, _%_}
 use mathlib.Core.Bool.{Bool}
 use mathlib.Core.List.{List, [], _∷_, _++_}
 use lib.Dec.{eqb}
-use lib.ListN.{take, drop, getD}
+use lib.ListN.{take, drop}
+use Rattle.bits.specs.Bytes.{byteAt}
 use Rattle.times.specs.declared.Nanos.{Nanos}
 
 -- the n low bytes of a number
@@ -20,15 +21,12 @@ numberOf (b ∷ l) = b + 256 * numberOf l
 unfoldable pub numberAt : (n at : ℕ) → List ℕ → ℕ
 numberAt n at l = numberOf (take n (drop at l))
 
--- the byte at an index; a time from an index on; yes is 1
-abbrev pub byteAt : ℕ → List ℕ → ℕ
-byteAt at l = getD l at 0
-
+-- a time from an index on; yes is 1
 abbrev pub timeAt : ℕ → List ℕ → Nanos
 timeAt at l = record { 0 = numberAt 8 at l }
 
 abbrev pub yes : ℕ → List ℕ → Bool
-yes at l = eqb (byteAt at l) 1
+yes at l = eqb (byteAt l at) 1
 
 -- words, four bytes each
 unfoldable pub wordBytes : List ℕ → List ℕ

@@ -3,8 +3,9 @@ use Prim.Native.Nat.{ℕ, zero, suc, _+_}
 use mathlib.Core.Bool.{Bool, true, not, _&&_, _||_, cond}
 use mathlib.Core.List.{List, [], _∷_}
 use lib.Dec.{eqb, leb}
-use lib.ListN.{take, drop, getD}
+use lib.ListN.{drop}
 use Rattle.bits.specs.Lists.{listed}
+use Rattle.bits.specs.Bytes.{byteAt}
 use Rattle.times.specs.declared.Nanos.{Nanos}
 use Rattle.readiness.specs.declared.Cause.{Cause}
 use Rattle.readiness.specs.declared.Cause.the-variants.{LinkUp, Flr, D3hot}
@@ -14,13 +15,13 @@ use Rattle.readiness.specs.declared.Status.{Status}
 use Rattle.records.specs.declared.Port.{Port}
 use Rattle.state_layout.specs.Numbers.{numberAt}
 use Rattle.state_layout.specs.Image.{notKept}
-pub use Rattle.state_layout.specs.Numbers.{byteAt, timeAt, yes}
+pub use Rattle.state_layout.specs.Numbers.{timeAt, yes}
 pub use Rattle.state_layout.specs.Image.{controlIn, queueIn, devIn}
 
 -- ---- A good image
 -- a yes/no byte is 0 or 1
 abbrev pub yesOrNo : ℕ → List ℕ → Bool
-yesOrNo at l = leb (byteAt at l) 1
+yesOrNo at l = leb (byteAt l at) 1
 
 -- no moment of the last reset is kept; link, owed, Received, Overflow, DRS Received, visibility, FRS interrupt and broken are yes or no
 unfoldable pub goodPort : List ℕ → Bool
@@ -37,7 +38,7 @@ goodPort l =
 
 -- a phase is at most 2, a cause at most 3, a Pending slot has one, and no slot has a set of children
 unfoldable pub goodStatus : List ℕ → Bool
-goodStatus l = leb (byteAt 0 l) 2 && leb (byteAt 1 l) 3 && (not (eqb (byteAt 0 l) 1) || not (eqb (byteAt 1 l) 0)) && eqb (byteAt 18 l) notKept
+goodStatus l = leb (byteAt l 0) 2 && leb (byteAt l 1) 3 && (not (eqb (byteAt l 0) 1) || not (eqb (byteAt l 1) 0)) && eqb (byteAt l 18) notKept
 
 unfoldable pub goodStatuses : ℕ → List ℕ → Bool
 goodStatuses zero l = true
@@ -50,11 +51,11 @@ isGood l = goodPort l && goodStatuses 32 (drop 46 l)
 -- ---- What is read
 -- the n bytes from an index on
 unfoldable pub bytesFrom : (n at : ℕ) → List ℕ → List ℕ
-bytesFrom n at l = listed n λ i. byteAt (at + i) l
+bytesFrom n at l = listed n λ i. byteAt l (at + i)
 
 -- THE PORT
 unfoldable pub portIn : List ℕ → Port
-portIn l = record { dev = devIn l; carried = bytesFrom 16 29 l; «carried_len» = byteAt 28 l; broken = yes 45 l }
+portIn l = record { dev = devIn l; carried = bytesFrom 16 29 l; «carried_len» = byteAt l 28; broken = yes 45 l }
 
 -- what a status has no use for is ignored
 abbrev pub causeIn : (cause : ℕ) → (end : Nanos) → Cause
@@ -65,7 +66,7 @@ phaseIn phase cause ready = cond (eqb phase 0) Down (cond (eqb phase 1) (Pending
 
 -- a status, from its first byte on
 unfoldable pub statusIn : List ℕ → Status
-statusIn l = record { phase = phaseIn (byteAt 0 l) (causeIn (byteAt 1 l) (timeAt 10 l)) (timeAt 2 l) }
+statusIn l = record { phase = phaseIn (byteAt l 0) (causeIn (byteAt l 1) (timeAt 10 l)) (timeAt 2 l) }
 
 -- THE STATUSES, from the first one's first byte on
 unfoldable pub statusesInBytes : ℕ → List ℕ → List Status

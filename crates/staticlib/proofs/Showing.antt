@@ -5,7 +5,7 @@ use mathlib.Core.Bool.{Bool, true, false, not}
 use mathlib.Core.List.{List, _∷_, _++_, append-nil}
 use native.Mathlib.Omega.{arith}
 use native.Mathlib.Nat.{zero-add}
-use lib.ListN.{length, take, drop, replicate, length-append, length-take, length-drop, drop-of-length-le}
+use lib.ListN.{length, take, drop, replicate, length-take, length-drop, drop-of-length-le}
 use lib.Seq.{sets, sets-eq, take-all, take-take, take-append-le}
 use Rattle.bits.specs.Widths.{atMost}
 use Rattle.readiness.specs.declared.Status.{Status}
@@ -14,10 +14,9 @@ use Rattle.records.specs.declared.Port.{Port}
 use Rattle.demand3.specs.Held.{lentOf}
 use Rattle.state_layout.specs.Numbers.{lowFirst, wordBytes}
 use Rattle.state_layout.specs.Image.{stateBytes}
-use Rattle.state_layout.proofs.Numbers.{length-low, length-words}
 use Rattle.state_layout.proofs.Stores.{sets-next, sets-part}
-use Rattle.state_layout.proofs.Steps.{length-state}
-use Rattle.staticlib.specs.Run.{imageOf, imageSize}
+use Rattle.library_run.specs.Run.{imageOf}
+use Rattle.library_run.proofs.Laws.{lengths}
 
 -- a refusal's test
 pub off : (b : Bool) → not b ≡ true → b ≡ false
@@ -61,26 +60,14 @@ module _ (consumed written : ℕ) (port : Port) (s : List Status) (live cells : 
   abbrev counts : List ℕ
   counts = lowFirst 8 consumed ++ lowFirst 8 written
 
-  length-counts : length counts ≡ 16
-  length-counts = length-append (lowFirst 8 consumed) (lowFirst 8 written) ∙ omega (arith, length-low 8 consumed, length-low 8 written)
-
-  length-to-state : length (counts ++ stateBytes port s) ≡ 16 + (46 + 27 * slots)
-  length-to-state = length-append counts (stateBytes port s) ∙ omega (arith, length-counts, length-state port s long, all)
-
-  length-to-live : length (counts ++ stateBytes port s ++ wordBytes live) ≡ 16 + (46 + 27 * slots) + 256 * slots
-  length-to-live = length-append (counts ++ stateBytes port s) (wordBytes live) ∙ omega (arith, length-to-state, length-words live, words)
-
-  pub length-image : length (imageOf consumed written port s live cells) ≡ imageSize slots (length cells)
-  unfolding imageOf
-  length-image = length-append (counts ++ stateBytes port s ++ wordBytes live) (wordBytes cells) ∙ omega (arith, length-to-live, length-words cells)
-
   pub image-stores : (l : List ℕ) (at : ℕ) → at ≡ 16 + (46 + 27 * slots)
       → sets (sets (sets (sets l 0 counts) 16 (stateBytes port s)) at (wordBytes live)) (at + 256 * slots) (wordBytes cells) ≡ sets l 0 (imageOf consumed written port s live cells)
   unfolding imageOf
   image-stores l at e =
-      let k₁ : 16 ≡ 0 + length counts = omega (arith, length-counts) in
-      let k₂ : at ≡ 0 + length (counts ++ stateBytes port s) = omega (arith, length-to-state, e) in
-      let k₃ : at + 256 * slots ≡ 0 + length (counts ++ stateBytes port s ++ wordBytes live) = omega (arith, length-to-live, e) in
+      let n = lengths consumed written port s live cells slots long all words in
+      let k₁ : 16 ≡ 0 + length counts = omega (arith, n .toCounts) in
+      let k₂ : at ≡ 0 + length (counts ++ stateBytes port s) = omega (arith, n .toState, e) in
+      let k₃ : at + 256 * slots ≡ 0 + length (counts ++ stateBytes port s ++ wordBytes live) = omega (arith, n .toLive, e) in
       ap (λ (x : List ℕ). sets (sets x at (wordBytes live)) (at + 256 * slots) (wordBytes cells)) (sets-next counts (stateBytes port s) l 0 16 k₁)
       ∙ ap (λ (x : List ℕ). sets x (at + 256 * slots) (wordBytes cells)) (sets-next (counts ++ stateBytes port s) (wordBytes live) l 0 at k₂)
       ∙ sets-next (counts ++ stateBytes port s ++ wordBytes live) (wordBytes cells) l 0 (at + 256 * slots) k₃

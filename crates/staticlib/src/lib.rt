@@ -2,16 +2,13 @@
 ghost use mathlib.Core.Path.{_≡_};
 ghost use mathlib.Core.List.{_++_};
 ghost use Prim.Native.Nat.{_+_, _*_, _≤_};
-ghost use lib.ListN.{length, take, replicate};
+ghost use lib.ListN.{length, take};
 ghost use lib.Seq.{sets};
 ghost use Rattle.bits.specs.Widths.{atMost};
-ghost use Rattle.readiness.specs.Status.{down};
-ghost use Rattle.demand3.specs.Held.{held, lentOf};
-ghost use Rattle.records.specs.Blank.{blankPort};
-ghost use Rattle.trace_in_pieces.specs.Pieces.{runsOn};
+ghost use Rattle.trace_in_pieces.specs.Pieces.{blankHeld, runsOn};
 ghost use Rattle.state_layout.specs.Numbers.{lowFirst};
 ghost use Rattle.state_layout.specs.Image.{stateBytes};
-ghost use Rattle.staticlib.specs.Run.{shown, imageOf, imageSize, showing, runOnCard, runOf};
+ghost use Rattle.library_run.specs.Run.{shown, imageOf, imageSize, showing, runOnCard, runOf};
 use bits::at_most;
 use bits::u64_of_u8;
 use bits::u64_of_usize;
@@ -88,7 +85,7 @@ fn run_and_show(
     requires { ⌜ (length (now live) ≡ 64 * atMost (setup .slots) 32) × (imageSize (atMost (setup .slots) 32) (length (now cells)) ≤ length (now image)) ⌝ }
     ensures { λ r. ⌜ shown r (now (answers .exit)) (now (image .exit))
         ≡ showing (atMost (setup .slots) 32)
-        (runsOn setup (now (defaults .entry)) size (held blankPort (lentOf (setup .slots) (replicate 32 down)) (now (live .entry)) (now (cells .entry))) (now (trace .entry)) (now (answers .entry)))
+        (runsOn setup (now (defaults .entry)) size (blankHeld setup (now (live .entry)) (now (cells .entry))) (now (trace .entry)) (now (answers .entry)))
         (now (image .entry)) ⌝ }
 {
     let fed = run_over(

@@ -12,8 +12,11 @@ part from to s = take (to - from) (drop from s)
 -- ---- lines
 
 -- 0Ah ends a line
+abbrev pub isLineEnd : ℕ → Bool
+isLineEnd b = eqb b 0x0A
+
 unfoldable pub inLine : ℕ → Bool
-inLine b = not (eqb b 0x0A)
+inLine b = not (isLineEnd b)
 
 -- a byte in front of the first line
 abbrev pub onto : ℕ → List (List ℕ) → List (List ℕ)
@@ -31,9 +34,13 @@ linesOf (b ∷ text) = cond (inLine b) (onto b (linesOf text)) ([] ∷ linesOf t
 unfoldable pub isBlank : ℕ → Bool
 isBlank b = eqb b 0x20 || eqb b 0x09 || eqb b 0x0D
 
--- a field has neither blanks nor '#', with which a comment starts
+-- '#' starts a comment
+abbrev pub startsComment : ℕ → Bool
+startsComment b = eqb b 0x23
+
+-- a field has no blanks, and no comment starts in it
 unfoldable pub inField : ℕ → Bool
-inField b = not (isBlank b || eqb b 0x23)
+inField b = not (isBlank b || startsComment b)
 
 -- how many bytes from the front on pass a test
 unfoldable pub run : (ℕ → Bool) → List ℕ → ℕ

@@ -7,8 +7,11 @@ ghost use lib.ListN.{length, drop};
 ghost use Rattle.text_fields.specs.Text.{inLine, isBlank, inField, runEnd, fieldStart, fieldEnd, field, noField, same, noNumber, baseOf, digitOf, widthAllowed, numberOf, numberAt};
 use bits::usize_of_u8;
 
+// What is no digit.
+pub const NO_DIGIT: u8 = 16;
+
 // What is no number.
-const NO_NUMBER: usize = 4294967296;
+pub const NO_NUMBER: usize = 4294967296;
 
 // ---- Lines and fields
 
@@ -18,7 +21,8 @@ fn in_line(b: u8) -> bool
     b != 0x0A
 }
 
-fn is_blank(b: u8) -> bool
+// Spaces, tabs and carriage returns.
+pub fn is_blank(b: u8) -> bool
     ensures { λ r. ⌜ r ≡ isBlank b ⌝ }
 {
     (b == 0x20) | (b == 0x09) | (b == 0x0D)
@@ -138,7 +142,7 @@ pub fn between(low: usize, n: usize, high: usize) -> bool
     (low <= n) & (n <= high)
 }
 
-// The digit that a byte is; 16 where it is none.
+// The digit that a byte is, or NO_DIGIT.
 pub fn digit_of(hex: bool, b: u8) -> u8
     ensures { λ r. ⌜ r ≡ digitOf hex b ⌝ }
 {
@@ -152,7 +156,7 @@ pub fn digit_of(hex: bool, b: u8) -> u8
     if hex & between(0x61, n, 0x66) {
         return b - 0x57;
     }
-    16
+    NO_DIGIT
 }
 
 fn digit_value(hex: bool, b: u8) -> usize

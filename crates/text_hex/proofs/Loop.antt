@@ -12,7 +12,7 @@ use lib.Seq.{drop-cons, drop-drop, length-take-le, take-suc-set, drop-set-lt}
 use Rattle.text_hex.specs.declared.Packing.{Packing}
 use Rattle.text_hex.specs.declared.Step.{Step}
 use Rattle.text_hex.specs.Packing.{stepOf, putBy, ends, later, packs, left, leaves}
-use Rattle.text_hex.specs.Room.{Held, held, placed}
+use Rattle.text_hex.specs.inner.Room.{Held, held, placed}
 use Rattle.text_hex.proofs.Steps.{gives-in, stops, goes, later-later}
 
 -- at the head, with i characters consumed and w bytes in the room, which held room₀ at first

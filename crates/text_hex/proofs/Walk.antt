@@ -11,8 +11,8 @@ use Rattle.text_hex.specs.declared.Within.{Within}
 use Rattle.text_hex.specs.declared.Within.the-variants.{Gap, Byte, Comment}
 use Rattle.text_hex.specs.declared.Turn.{Turn}
 use Rattle.text_hex.specs.declared.Turn.the-variants.{Goes, Completes, Bad}
-use Rattle.text_fields.specs.Text.{digitOf}
-use Rattle.text_hex.specs.Text.{isDigit, isBlank, isLineEnd, startsComment, byteOf, inGap, inByte, inComment, turnOf}
+use Rattle.text_fields.specs.Text.{isBlank, isLineEnd, startsComment, digitOf}
+use Rattle.text_hex.specs.Text.{isDigit, separates, byteOf, inGap, inByte, inComment, turnOf}
 use Rattle.text_hex.specs.Grammar.{inOneLine, HexText}
 use Rattle.text_hex.specs.Grammar.HexText.{nothing, blank, byte, comment, last}
 
@@ -32,10 +32,10 @@ either false b f g e = g e
 same-digit : (c n : ℕ) → isDigit n ≡ false → eqb c n ≡ true → isDigit c ≡ false
 same-digit c n f e = ap isDigit (eqb-true c n e) ∙ f
 
--- a blank is no digit
-blank-no-digit : (c : ℕ) → isBlank c ≡ true → isDigit c ≡ false
-unfolding isBlank digitOf
-blank-no-digit c h =
+-- a blank or a line end is no digit
+separator-no-digit : (c : ℕ) → separates c ≡ true → isDigit c ≡ false
+unfolding separates isBlank digitOf
+separator-no-digit c h =
     either (eqb c 0x20 || eqb c 0x09 || eqb c 0x0D) (eqb c 0x0A)
     (either (eqb c 0x20 || eqb c 0x09) (eqb c 0x0D)
     (either (eqb c 0x20) (eqb c 0x09) (same-digit c 0x20 refl) (same-digit c 0x09 refl))
@@ -48,16 +48,16 @@ digit-small c h = mod-eq-of-lt (ltb-true (digitOf true c) 16 h)
 
 -- ---- what each character does
 
-pub blank-goes : (c : ℕ) → isBlank c ≡ true → turnOf Gap c ≡ Goes Gap
+pub separator-goes : (c : ℕ) → separates c ≡ true → turnOf Gap c ≡ Goes Gap
 unfolding turnOf inGap
-blank-goes c h = simp (blank-no-digit c h, h)
+separator-goes c h = simp (separator-no-digit c h, h)
 
 pub digit-goes : (c : ℕ) → isDigit c ≡ true → turnOf Gap c ≡ Goes (Byte (digitOf true c))
 unfolding turnOf inGap
 digit-goes c h = simp h
 
 pub hash-goes : turnOf Gap 0x23 ≡ Goes Comment
-unfolding turnOf inGap isBlank digitOf
+unfolding turnOf inGap separates isBlank digitOf
 hash-goes = refl
 
 pub low-completes : (h c : ℕ) → isDigit c ≡ true → turnOf (Byte h) c ≡ Completes (byteOf h (digitOf true c))
@@ -94,7 +94,7 @@ in-last (c ∷ line) h =
 
 pub walked : {text bytes : List ℕ} → HexText text bytes → From Gap text bytes
 walked nothing = ends-gap
-walked (blank {c} h r) = goes (blank-goes c h) (walked r)
+walked (blank {c} h r) = goes (separator-goes c h) (walked r)
 walked (byte {high} {low} {text} {bytes} h l r) =
     goes (digit-goes high h)
     (completes (pair-completes high low h l) (walked r))
@@ -106,14 +106,14 @@ walked (last {line} h) = goes hash-goes (in-last line h)
 -- what a character does, and why
 pub data Does : Within → ℕ → Turn → Type 0 where
   digit : {c : ℕ} → isDigit c ≡ true → Does Gap c (Goes (Byte (digitOf true c)))
-  space : {c : ℕ} → isBlank c ≡ true → Does Gap c (Goes Gap)
+  space : {c : ℕ} → separates c ≡ true → Does Gap c (Goes Gap)
   hash : {c : ℕ} → startsComment c ≡ true → Does Gap c (Goes Comment)
   low : {h c : ℕ} → isDigit c ≡ true → Does (Byte h) c (Completes (byteOf h (digitOf true c)))
   line-end : {c : ℕ} → isLineEnd c ≡ true → Does Comment c (Goes Gap)
   in-line : {c : ℕ} → isLineEnd c ≡ false → Does Comment c (Goes Comment)
   none : {w : Within} {c : ℕ} → Does w c Bad
 
-gap-does : (c : ℕ) (d b s : Bool) → isDigit c ≡ d → isBlank c ≡ b → startsComment c ≡ s
+gap-does : (c : ℕ) (d b s : Bool) → isDigit c ≡ d → separates c ≡ b → startsComment c ≡ s
     → Does Gap c (cond d (Goes (Byte (digitOf true c))) (cond b (Goes Gap) (cond s (Goes Comment) Bad)))
 gap-does c true b s e f g = digit e
 gap-does c false true s e f g = space f
@@ -130,7 +130,7 @@ comment-does c false e = in-line e
 
 pub does : (w : Within) (c : ℕ) → Does w c (turnOf w c)
 unfolding turnOf inGap inByte inComment
-does Gap c = gap-does c (isDigit c) (isBlank c) (startsComment c) refl refl refl
+does Gap c = gap-does c (isDigit c) (separates c) (startsComment c) refl refl refl
 does (Byte h) c = byte-does h c (isDigit c) refl
 does Comment c = comment-does c (isLineEnd c) refl
 

@@ -14,7 +14,8 @@ use Rattle.text_hex.specs.declared.Within.the-variants.{Gap}
 use Rattle.text_hex.specs.declared.Turn.{Turn}
 use Rattle.text_hex.specs.declared.Turn.the-variants.{Goes, Completes, Bad}
 use Rattle.text_hex.specs.declared.Packing.{Packing}
-use Rattle.text_hex.specs.Text.{isLineEnd, turnOf}
+use Rattle.text_fields.specs.Text.{isLineEnd}
+use Rattle.text_hex.specs.Text.{turnOf}
 use Rattle.text_hex.specs.Packing.{start, oneMore, past, spoiled, packs}
 use Rattle.text_hex.specs.Grammar.{inOneLine}
 use Rattle.text_hex.specs.Places.{lineEnds, lastLine, lineAfter, columnAfter}

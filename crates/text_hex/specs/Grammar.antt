@@ -3,8 +3,8 @@ use Prim.Native.Nat.{ℕ, _+_, _*_}
 use mathlib.Core.Path.{_≡_}
 use mathlib.Core.Bool.{Bool, true, not, _&&_}
 use mathlib.Core.List.{List, [], _∷_, _++_}
-use Rattle.text_fields.specs.Text.{digitOf}
-use Rattle.text_hex.specs.Text.{isDigit, isBlank, isLineEnd}
+use Rattle.text_fields.specs.Text.{isLineEnd, digitOf}
+use Rattle.text_hex.specs.Text.{isDigit, separates}
 
 -- characters of one line
 abbrev pub inOneLine : List ℕ → Bool
@@ -14,7 +14,7 @@ inOneLine (c ∷ s) = not (isLineEnd c) && inOneLine s
 -- the text is hex text, and has these bytes
 pub data HexText : (text bytes : List ℕ) → Type 0 where
   nothing : HexText [] []
-  blank : {c : ℕ} {text bytes : List ℕ} → isBlank c ≡ true → HexText text bytes → HexText (c ∷ text) bytes
+  blank : {c : ℕ} {text bytes : List ℕ} → separates c ≡ true → HexText text bytes → HexText (c ∷ text) bytes
   byte : {high low : ℕ} {text bytes : List ℕ} → isDigit high ≡ true → isDigit low ≡ true → HexText text bytes
       → HexText (high ∷ low ∷ text) ((digitOf true high * 16 + digitOf true low) ∷ bytes)
   comment : (line : List ℕ) {text bytes : List ℕ} → inOneLine line ≡ true → HexText text bytes → HexText (0x23 ∷ line ++ 0x0A ∷ text) bytes

@@ -1,5 +1,5 @@
 pub mod Text
 pub mod Packing
-pub mod Room
 pub mod Grammar
 pub mod Places
+pub mod inner

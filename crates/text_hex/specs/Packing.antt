@@ -12,7 +12,8 @@ use Rattle.text_hex.specs.declared.Turn.the-variants.{Goes, Completes, B
 use Rattle.text_hex.specs.declared.Packing.{Packing}
 use Rattle.text_hex.specs.declared.Packed.{Packed}
 use Rattle.text_hex.specs.declared.Step.{Step}
-use Rattle.text_hex.specs.Text.{isLineEnd, turnOf}
+use Rattle.text_fields.specs.Text.{isLineEnd}
+use Rattle.text_hex.specs.Text.{turnOf}
 
 -- where a text starts
 abbrev pub start : Packing

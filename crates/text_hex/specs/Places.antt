@@ -3,7 +3,7 @@ use Prim.Native.Nat.{ℕ, suc}
 use mathlib.Core.Bool.{cond}
 use mathlib.Core.List.{List, [], _∷_}
 use lib.ListN.{length}
-use Rattle.text_hex.specs.Text.{isLineEnd}
+use Rattle.text_fields.specs.Text.{isLineEnd}
 use Rattle.text_hex.specs.Grammar.{inOneLine}
 
 -- how many line ends a text has

@@ -1,13 +1,14 @@
 -- Hex text. The grammar:
 --
---   text     bytes, blanks and comments, in any order
+--   text     bytes, blanks, line ends and comments, in any order
 --   byte     two hex digits, the high one first, with nothing between them; small and capital letters alike
---   blank    a space, a tab, a carriage return or a line end (0Ah)
 --   comment  '#' and all that follows it in the line
+--
+-- Blanks, line ends and digits are those of `text_fields`.
 use Prim.Native.Nat.{ℕ, _+_, _*_, _%_}
 use mathlib.Core.Bool.{Bool, true, _||_, cond}
-use lib.Dec.{eqb, ltb}
-use Rattle.text_fields.specs.Text.{noDigit, digitOf}
+use lib.Dec.{ltb}
+use Rattle.text_fields.specs.Text.{isBlank, isLineEnd, startsComment, noDigit, digitOf}
 use Rattle.text_hex.specs.declared.Within.{Within}
 use Rattle.text_hex.specs.declared.Within.the-variants.{Gap, Byte, Comment}
 use Rattle.text_hex.specs.declared.Turn.{Turn}
@@ -17,16 +18,9 @@ use Rattle.text_hex.specs.declared.Turn.the-variants.{Goes, Completes, B
 abbrev pub isDigit : ℕ → Bool
 isDigit c = ltb (digitOf true c) noDigit
 
--- 0Ah ends a line
-abbrev pub isLineEnd : ℕ → Bool
-isLineEnd c = eqb c 0x0A
-
-unfoldable pub isBlank : ℕ → Bool
-isBlank c = eqb c 0x20 || eqb c 0x09 || eqb c 0x0D || isLineEnd c
-
--- '#'
-abbrev pub startsComment : ℕ → Bool
-startsComment c = eqb c 0x23
+-- what may stand between bytes, beside comments
+unfoldable pub separates : ℕ → Bool
+separates c = isBlank c || isLineEnd c
 
 -- the byte of two digits
 abbrev pub byteOf : (high low : ℕ) → ℕ
@@ -36,7 +30,7 @@ byteOf high low = high % 16 * 16 + low % 16
 unfoldable pub inGap : ℕ → Turn
 inGap c =
     cond (isDigit c) (Goes (Byte (digitOf true c)))
-    (cond (isBlank c) (Goes Gap)
+    (cond (separates c) (Goes Gap)
     (cond (startsComment c) (Goes Comment) Bad))
 
 -- a character in a byte, after its first digit

@@ -1,10 +1,11 @@
 // Hex text to bytes, piece by piece: a byte is two hex digits; blanks, line ends and comments stand between bytes.
 ghost use mathlib.Core.Path.{_≡_};
-ghost use mathlib.Core.Bool.{true};
-ghost use Rattle.text_fields.specs.Text.{digitOf};
-ghost use Rattle.text_hex.specs.Text.{isDigit, isBlank, byteOf, inGap, inByte, inComment, turnOf};
+ghost use Rattle.text_hex.specs.Text.{isDigit, separates as separatesOf, byteOf, inGap, inByte, inComment, turnOf};
 ghost use Rattle.text_hex.specs.Packing.{start as startOf, oneMore, isBetween, isWhole, past as pastOf, spoiled, stopsAt, passes, puts, stepBy, stepOf, left, leaves};
-ghost use Rattle.text_hex.specs.Room.{placed, held};
+ghost use Rattle.text_hex.specs.inner.Room.{placed, held};
+use text_fields::NO_DIGIT;
+use text_fields::digit_of;
+use text_fields::is_blank;
 
 // What the next character stands in.
 pub enum Within {
@@ -49,27 +50,17 @@ struct Step {
     after: Packing,
 }
 
-// What is no digit.
-pub const NO_DIGIT: u8 = 16;
-
-// The digit that a character is; 16 where it is none.
-pub fn digit_of(c: u8) -> u8
-    ensures { λ r. ⌜ r ≡ digitOf true c ⌝ }
-{
-    text_fields::digit_of(true, c)
-}
-
 fn is_digit(c: u8) -> bool
     ensures { λ r. ⌜ r ≡ isDigit c ⌝ }
 {
-    digit_of(c) < NO_DIGIT
+    digit_of(true, c) < NO_DIGIT
 }
 
-// Spaces, tabs, carriage returns and line ends.
-fn is_blank(c: u8) -> bool
-    ensures { λ r. ⌜ r ≡ isBlank c ⌝ }
+// What may stand between bytes, beside comments: blanks and line ends.
+fn separates(c: u8) -> bool
+    ensures { λ r. ⌜ r ≡ separatesOf c ⌝ }
 {
-    (c == 0x20) | (c == 0x09) | (c == 0x0D) | (c == 0x0A)
+    is_blank(c) | (c == 0x0A)
 }
 
 // The byte of two digits.
@@ -84,9 +75,9 @@ fn in_gap(c: u8) -> Turn
     ensures { λ r. ⌜ r ≡ inGap c ⌝ }
 {
     if is_digit(c) {
-        return Turn::Goes(Within::Byte(digit_of(c)));
+        return Turn::Goes(Within::Byte(digit_of(true, c)));
     }
-    if is_blank(c) {
+    if separates(c) {
         return Turn::Goes(Within::Gap);
     }
     if c == 0x23 {
@@ -100,7 +91,7 @@ fn in_byte(high: u8, c: u8) -> Turn
     ensures { λ r. ⌜ r ≡ inByte high c ⌝ }
 {
     if is_digit(c) {
-        return Turn::Completes(byte_of(high, digit_of(c)));
+        return Turn::Completes(byte_of(high, digit_of(true, c)));
     }
     Turn::Bad
 }
@@ -220,7 +211,7 @@ fn pass(p: Packing) -> Step
     }
 }
 
-fn put_byte(b: u8, p: Packing) -> Step
+fn give_byte(b: u8, p: Packing) -> Step
     ensures { λ r. ⌜ r ≡ puts b p ⌝ }
 {
     Step {
@@ -241,7 +232,7 @@ fn step_by(turn: Turn, p: Packing, c: u8, room: usize) -> Step
             if room == 0 {
                 stop_at(p)
             } else {
-                put_byte(b, past(c, Within::Gap, p))
+                give_byte(b, past(c, Within::Gap, p))
             }
         }
         Turn::Bad => stop_at(spoil(p)),

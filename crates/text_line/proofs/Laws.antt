@@ -1,6 +1,6 @@
 -- What holds of every text that is put, and of numbers as digits.
 use Prim.Native.Nat.{ℕ, zero, suc, _+_, _-_, _*_, _/_, _%_, _^_, _≤_, _<_, min}
-use mathlib.Core.Path.{_≡_, refl, ap, _∙_}
+use mathlib.Core.Path.{_≡_, refl, ap, ap₂, subst, _∙_}
 use mathlib.Core.Bool.{Bool, true, false, cond}
 use mathlib.Core.List.{List, [], _∷_, _++_, append-nil}
 use native.Mathlib.Omega.{arith}
@@ -10,11 +10,10 @@ use borrow.Author.Tests.{ltb-true, ltb-false, lt-ltb, le-ltb, eqb-true}
 use lib.Dec.{ltb, eqb, T}
 use lib.ListN.{length, take, drop, set, length-set, take-append-drop, drop-of-length-le}
 use lib.Seq.{take-all, take-nil, append-snoc, take-suc-set, drop-set-lt}
+use Rattle.text_fields.specs.Text.{noDigit, baseOf, digitOf, valueFrom}
 use Rattle.text_line.specs.Line.{Lined, lined, putByte, puts, Put}
 use Rattle.text_line.specs.Text.{glyphOf, hexOf, decimalFrom}
 use Rattle.bits.proofs.Tests.{all-at, is-true}
-use Rattle.text_line.proofs.Putting.{put-long}
-use Rattle.text_line.specs.Values.{digitOf, valueFrom, valueOf}
 
 -- ---- the line
 
@@ -76,18 +75,6 @@ puts-means [] line at =
     rw (i, take-nil (length line - at), append-nil, z, take-append-drop)
 puts-means (b ∷ text) line at = by-room b text line at (ltb at (length line)) refl (puts-means text)
 
--- what holds of the index and the line that a `put_` function gives
-pub record Bounds (text : List ℕ) (at : ℕ) (before : List ℕ) (next : ℕ) (after : List ℕ) : Type 0 where
-  pub from : at ≤ next
-  pub to : at ≤ length before → next ≤ length before
-  pub at-most : next ≤ at + length text
-  pub long : length after ≡ length before
-
-pub bounds : {text before after : List ℕ} {at next : ℕ} → Put text at before next after → Bounds text at before next after
-bounds {text} {before} {at = at} p =
-    let i : _ ≡ indexAfter text at before = ap (λ (x : Lined). x .at) (p .so ∙ puts-means text before at) in
-    record { from = omega arith; to = λ h. omega arith; at-most = omega arith; long = put-long p }
-
 -- where there is room for the whole text
 pub whole : {text before after : List ℕ} {at next : ℕ} → Put text at before next after → at + length text ≤ length before
     → lined next after ≡ lined (at + length text) (take at before ++ text ++ drop (at + length text) before)
@@ -95,41 +82,76 @@ whole {text} {before} {at = at} p h =
     let i : at + min (length text) (length before - at) ≡ at + length text = omega arith in
     p .so ∙ puts-means text before at ∙ rw (i, take-all (length before - at) text (omega arith))
 
--- ---- digits
+-- ---- digits, as the reader of numbers has them
 
-glyph-digit : (d : ℕ) → d < 16 → digitOf (glyphOf d) ≡ d
-unfolding glyphOf
-glyph-digit d h = eqb-true (digitOf (glyphOf d)) d (is-true _ (all-at 16 (λ k. eqb (digitOf (glyphOf k)) k) tt d h))
+glyph-digit : (hex : Bool) (d : ℕ) → d < baseOf hex → digitOf hex (glyphOf d) ≡ d
+unfolding glyphOf digitOf
+glyph-digit true d h = eqb-true (digitOf true (glyphOf d)) d (is-true _ (all-at 16 (λ k. eqb (digitOf true (glyphOf k)) k) tt d h))
+glyph-digit false d h = eqb-true (digitOf false (glyphOf d)) d (is-true _ (all-at 10 (λ k. eqb (digitOf false (glyphOf k)) k) tt d h))
 
-value-end : (base n : ℕ) (l : List ℕ) (c : ℕ) → valueFrom base n (l ++ (c ∷ [])) ≡ valueFrom base n l * base + digitOf c
-value-end base n [] c = refl
-value-end base n (d ∷ l) c = value-end base (n * base + digitOf d) l c
+-- every character is a digit
+abbrev Digits : Bool → List ℕ → Type 0
+Digits hex [] = Unit {0}
+Digits hex (c ∷ l) = (digitOf hex c < noDigit) × Digits hex l
 
--- k hex digits are the number, where it has no more
-pub hex-value : (k n : ℕ) → n < 16 ^ k → valueOf 16 (hexOf k n) ≡ n
-unfolding hexOf
-hex-value zero n h = omega arith
-hex-value (suc k) n h =
+one-more : (hex : Bool) (l : List ℕ) (c : ℕ) → Digits hex l → digitOf hex c < noDigit → Digits hex (l ++ (c ∷ []))
+one-more hex [] c ds h = (h, tt)
+one-more hex (d ∷ l) c ds h = (ds .0, one-more hex l c (ds .1) h)
+
+value-end : (hex : Bool) (n : ℕ) (l : List ℕ) (c : ℕ) → Digits hex l → digitOf hex c < noDigit
+    → valueFrom hex n (l ++ (c ∷ [])) ≡ valueFrom hex n l * baseOf hex + digitOf hex c
+unfolding valueFrom
+value-end hex n [] c ds h = simp (lt-ltb (digitOf hex c) noDigit h)
+value-end hex n (d ∷ l) c ds h = simp (lt-ltb (digitOf hex d) noDigit (ds .0)) (value-end hex (n * baseOf hex + digitOf hex d) l c (ds .1) h)
+
+-- what a text is read as: all of it digits, and the number
+record Reads (hex : Bool) (text : List ℕ) (n : ℕ) : Type 0 where
+  digits : Digits hex text
+  value : valueFrom hex 0 text ≡ n
+
+-- a digit below the base, put behind a number
+read-on : (hex : Bool) (text : List ℕ) (n d : ℕ) → Reads hex text n → d < baseOf hex → baseOf hex ≤ noDigit → Reads hex (text ++ (glyphOf d ∷ [])) (n * baseOf hex + d)
+read-on hex text n d r h b =
+    let e : digitOf hex (glyphOf d) ≡ d = glyph-digit hex d h in
+    let small : digitOf hex (glyphOf d) < noDigit = omega (arith, e) in
+    record {
+      digits = one-more hex text (glyphOf d) (r .digits) small;
+      value = value-end hex 0 text (glyphOf d) (r .digits) small ∙ ap₂ (λ (v w : ℕ). v * baseOf hex + w) (r .value) e;
+    }
+
+reads-hex : (k n : ℕ) → n < 16 ^ k → Reads true (hexOf k n) n
+unfolding hexOf valueFrom
+reads-hex zero n h = record { digits = tt; value = omega arith }
+reads-hex (suc k) n h =
     let g : n < 16 ^ k * 16 = rw (pow-suc 16 k) at h in
-    let v : valueOf 16 (hexOf k (n / 16)) ≡ n / 16 = hex-value k (n / 16) (div-lt-iff-lt-mul {k = 16} {x = n} {y = 16 ^ k} (omega arith) .1 g) in
-    value-end 16 0 (hexOf k (n / 16)) (glyphOf (n % 16))
-    ∙ rw (v, glyph-digit (n % 16) (mod-lt n (omega arith)), div-add-mod' n 16)
+    let r = reads-hex k (n / 16) (div-lt-iff-lt-mul {k = 16} {x = n} {y = 16 ^ k} (omega arith) .1 g) in
+    subst (Reads true (hexOf k (n / 16) ++ (glyphOf (n % 16) ∷ []))) (div-add-mod' n 16) (read-on true (hexOf k (n / 16)) (n / 16) (n % 16) r (mod-lt n (omega arith)) (omega arith))
 
-by-ten : (most n : ℕ) (t : Bool) → ltb n 10 ≡ t → (ltb n 10 ≡ false → valueOf 10 (decimalFrom most (n / 10)) ≡ n / 10)
-    → valueOf 10 (cond t (glyphOf n ∷ []) (decimalFrom most (n / 10) ++ (glyphOf (n % 10) ∷ []))) ≡ n
-by-ten most n true e f =
-    let h : n < 10 = ltb-true n 10 e in
-    rw (glyph-digit n (omega arith)) (omega arith)
+-- k hex digits are read as the number, where it has no more
+pub hex-value : (k n : ℕ) → n < 16 ^ k → valueFrom true 0 (hexOf k n) ≡ n
+hex-value k n h = reads-hex k n h .value
+
+reads-one : (n : ℕ) → n < 10 → Reads false (glyphOf n ∷ []) n
+unfolding valueFrom
+reads-one n h =
+    let e : digitOf false (glyphOf n) ≡ n = glyph-digit false n h in
+    let small : digitOf false (glyphOf n) < noDigit = omega (arith, e) in
+    record { digits = (small, tt); value = simp (lt-ltb (digitOf false (glyphOf n)) noDigit small) (omega (arith, e)) }
+
+by-ten : (most n : ℕ) (t : Bool) → ltb n 10 ≡ t → (ltb n 10 ≡ false → Reads false (decimalFrom most (n / 10)) (n / 10))
+    → Reads false (cond t (glyphOf n ∷ []) (decimalFrom most (n / 10) ++ (glyphOf (n % 10) ∷ []))) n
+by-ten most n true e f = reads-one n (ltb-true n 10 e)
 by-ten most n false e f =
-    let h : n % 10 < 10 = mod-lt n (omega arith) in
-    value-end 10 0 (decimalFrom most (n / 10)) (glyphOf (n % 10))
-    ∙ rw (f e, glyph-digit (n % 10) (omega arith), div-add-mod' n 10)
+    subst (Reads false (decimalFrom most (n / 10) ++ (glyphOf (n % 10) ∷ []))) (div-add-mod' n 10) (read-on false (decimalFrom most (n / 10)) (n / 10) (n % 10) (f e) (mod-lt n (omega arith)) (omega arith))
 
--- and the decimal form is the number
-pub decimal-value : (most n : ℕ) → n < 10 ^ most → valueOf 10 (decimalFrom most n) ≡ n
-unfolding decimalFrom
-decimal-value zero n h = omega arith
-decimal-value (suc most) n h =
+reads-decimal : (most n : ℕ) → n < 10 ^ most → Reads false (decimalFrom most n) n
+unfolding decimalFrom valueFrom
+reads-decimal zero n h = record { digits = tt; value = omega arith }
+reads-decimal (suc most) n h =
     let g : n < 10 ^ most * 10 = rw (pow-suc 10 most) at h in
     by-ten most n (ltb n 10) refl
-    (λ e. decimal-value most (n / 10) (div-lt-iff-lt-mul {k = 10} {x = n} {y = 10 ^ most} (omega arith) .1 g))
+    (λ e. reads-decimal most (n / 10) (div-lt-iff-lt-mul {k = 10} {x = n} {y = 10 ^ most} (omega arith) .1 g))
+
+-- and so is the decimal form
+pub decimal-value : (most n : ℕ) → n < 10 ^ most → valueFrom false 0 (decimalFrom most n) ≡ n
+decimal-value most n h = reads-decimal most n h .value

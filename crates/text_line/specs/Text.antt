@@ -3,7 +3,7 @@ use Prim.Native.Nat.{ℕ, zero, suc, _+_, _/_, _%_}
 use mathlib.Core.Bool.{Bool, true, false, cond}
 use mathlib.Core.List.{List, [], _∷_, _++_}
 use lib.Dec.{ltb}
-pub use Rattle.bits.specs.Text.{chars}
+use Rattle.bits.specs.Text.{chars}
 
 -- a digit below 16: '0' to '9', 'A' to 'F'
 unfoldable pub glyphOf : ℕ → ℕ

@@ -14,12 +14,13 @@ use Rattle.trace.specs.Outcome.{Outcome, unknownNext, scan, outcome, out
 use Rattle.trace.specs.Feed.{byte, feedOpen}
 use Rattle.trace.specs.Lent.{Lent, refusal, refusalOr31, feeds}
 use Rattle.trace.specs.Calls.{Call, BytesIn, calls, allRefused, expectedFrom, expected}
-use Rattle.trace.specs.Claim.{Keeps, Claim}
+use Rattle.trace.specs.OneTrace.{OneTrace}
+use Rattle.trace.specs.inner.Keeps.{Keeps}
 use Rattle.trace.proofs.Tests.{if-false}
 use Rattle.trace.proofs.Lists.{take-pad}
 use Rattle.trace.proofs.Gathering.{begun-short}
 use Rattle.trace.proofs.Refusing.{refusal-none, refusal-accepted}
-use Rattle.trace.proofs.Theorem.{claim}
+use Rattle.trace.proofs.Theorem.{one-trace}
 
 -- ---- the table: kinds 01 to 0D and no other
 sized : List ℕ → List ℕ
@@ -115,8 +116,8 @@ keeps h =
           (rw (le-leb (length (p .carried)) 16 (begun-short (p .carried) b), take-pad 16 (p .carried), b));
     }
 
-toy-claim : (h : Port) (cs : List Call) → Bytes (lent .view h .carried) → BytesIn cs → Claim lent h cs (calls lent h cs)
-toy-claim h = claim lent h Good (keeps h)
+toy-one-trace : (h : Port) (cs : List Call) → Bytes (lent .view h .carried) → BytesIn cs → OneTrace lent h cs (calls lent h cs)
+toy-one-trace h = one-trace lent h Good (keeps h)
 
 -- ---- seven calls. 05, 01 0A 00 00 00, 0A 07 and 0D run; then an unknown kind, 77h. Every answer byte is EEh before its call, and what lies past the carried bytes is anything
 abbrev started : Port

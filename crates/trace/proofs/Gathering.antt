@@ -10,7 +10,7 @@ use lib.Dec.{T, leb, ltb, leb→le}
 use borrow.Author.Tests.{lt-ltb, le-ltb, le-leb, lt-leb, ltb-true, ltb-false}
 use Rattle.bits.proofs.Tests.{both-left, both-right}
 use Rattle.trace.specs.Format.{recordSizes, sizeOf, longest, known, body, Next, complete, incomplete, unknown, next, begun}
-use Rattle.trace.specs.Feed.{wholeSize, endNumber, endCount}
+use Rattle.trace.specs.inner.Gathered.{wholeSize, endNumber, endCount}
 use Rattle.trace.proofs.Cutting.{Partial}
 
 -- ---- no record is longer than 17 bytes: one test over the table

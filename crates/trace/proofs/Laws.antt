@@ -13,32 +13,20 @@ use borrow.Author.Tests.{le-leb, lt-leb}
 use Rattle.bits.proofs.Tests.{split}
 use Rattle.trace.specs.Format.{if_then_else_, known, body, whole, complete, incomplete, unknown, next, begun}
 use Rattle.trace.specs.Bench.{Device, Bench, Benched, Cut, front, uncut, cut, runs, plain}
-use Rattle.trace.specs.Feed.{Fed, feedOpen, feed}
-use Rattle.trace.specs.Lent.{Lent, Left, outcomeIn, feeds}
-use Rattle.trace.specs.Calls.{Call, Came, BytesIn, noCall, before, calls, gave}
-use Rattle.trace.specs.Claim.{Keeps, Fresh, FromFresh}
+use Rattle.trace.specs.Feed.{Fed, feedOpen}
+use Rattle.trace.specs.inner.OneCall.{feed}
+use Rattle.trace.specs.Lent.{Lent, Left, outcomeIn, feeds, Start}
+use Rattle.trace.specs.Calls.{Call, Came, BytesIn, noCall, before, calls}
+use Rattle.trace.specs.Exactly.{joinedUp, AllWhole, IsCut, CutExactly, EndsWith, all-consumed, no-room, no-kind, EndsExactly}
+use Rattle.trace.specs.inner.Keeps.{Keeps}
 use Rattle.trace.proofs.Cutting.{Partial, cut-whole, cut-short, whole-of, known-of, fits-of, cut-nil}
 use Rattle.trace.proofs.Records.{complete-at, incomplete-at, length-whole}
 use Rattle.trace.proofs.Gathering.{begun-partial, partial-begun}
-use Rattle.trace.proofs.Feeding.{Way, way, carries, full, ends, unknown as unknown-kind, partial-more, none-carried}
+use Rattle.trace.proofs.Feeding.{Way, way, carries, full, ends as ends-record, unknown as unknown-kind, partial-more, none-carried}
 use Rattle.trace.proofs.OneCall.{next-last, feed-shut, feed-open}
-use Rattle.trace.proofs.Theorem.{claim}
+use Rattle.trace.proofs.Theorem.{one-trace}
 
 -- ---- A trace and its records
-abbrev pub joinedUp : List (List ℕ) → List ℕ
-joinedUp [] = []
-joinedUp (r ∷ rs) = r ++ joinedUp rs
-
-abbrev pub AllWhole : List (List ℕ) → Type 0
-AllWhole [] = Unit {0}
-AllWhole (r ∷ rs) = (next r ≡ complete r) × AllWhole rs
-
--- THE CUT: no byte is lost or moved, each piece is one whole record, and what is left begins with no whole record
-pub record IsCut (bs : List ℕ) (c : Cut) : Type 0 where
-  pub joined : joinedUp (c .wholes) ++ c .left ≡ bs
-  pub wholes : AllWhole (c .wholes)
-  pub left : (r : List ℕ) → next (c .left) ≡ complete r → ⊥
-
 next-front : (k : ℕ) (rest : List ℕ) → whole k rest ≡ true → next (k ∷ take (body k) rest) ≡ complete (k ∷ take (body k) rest)
 unfolding next
 next-front k rest e =
@@ -79,10 +67,9 @@ is-cut-in (suc n) (k ∷ rest) h =
     }))
     (λ e. rw (cut-short k rest e) (record { joined = refl; wholes = tt; left = λ r. no-front k rest r e }))
 
-pub is-cut : (bs : List ℕ) → IsCut bs (cut bs)
+is-cut : (bs : List ℕ) → IsCut bs (cut bs)
 is-cut bs = is-cut-in (length bs) bs (omega arith)
 
--- ONE WAY ONLY: any cut of that kind is the cut
 abbrev cutOf : List (List ℕ) → List ℕ → Cut
 cutOf rs left = record { wholes = rs; left = left }
 
@@ -103,8 +90,12 @@ cut-pieces [] left w h = cut-left left h
 cut-pieces (r ∷ rs) left w h =
     rw (append-assoc r (joinedUp rs) left) (cut-front r (joinedUp rs ++ left) (w .0) ∙ ap (front r) (cut-pieces rs left (w .1) h))
 
-pub cut-only : (bs : List ℕ) (c : Cut) → IsCut bs c → c ≡ cut bs
+cut-only : (bs : List ℕ) (c : Cut) → IsCut bs c → c ≡ cut bs
 cut-only bs c i = sym (ap cut (sym (i .joined)) ∙ cut-pieces (c .wholes) (c .left) (i .wholes) (i .left))
+
+-- THE CUT is one, and there is no other
+pub cut-exactly : CutExactly
+cut-exactly = record { is = is-cut; only = cut-only }
 
 -- WHAT MAY BE CARRIED is what is neither a whole record at the front nor an unknown kind
 pub begun-is : (c : List ℕ) → begun c ≡ true → next c ≡ incomplete
@@ -116,38 +107,32 @@ pub incomplete-begun : (c : List ℕ) → next c ≡ incomplete → begun c ≡ 
 incomplete-begun c e = partial-begun c (incomplete-at c e)
 
 -- ---- The exact end of a call
--- where an accepted call that is not broken ends, with c carried, `room` answer bytes left and `rest` not consumed
-pub data EndsWith (c : List ℕ) (room : ℕ) (rest : List ℕ) (number : ℕ) : Type 0 where
-  -- 0: everything is consumed
-  all-consumed : number ≡ 0 → rest ≡ [] → EndsWith c room rest number
-  -- 30: the next byte is a record's last, and fewer than 8 answer bytes are left
-  no-room : (b : ℕ) (more : List ℕ) → number ≡ 30 → rest ≡ b ∷ more → next (c ++ b ∷ []) ≡ complete (c ++ b ∷ []) → room < 8 → EndsWith c room rest number
-  -- 31: the next byte is a kind that there is not
-  no-kind : (b : ℕ) (more : List ℕ) → number ≡ 31 → rest ≡ b ∷ more → c ≡ [] → known b ≡ false → EndsWith c room rest number
-
 module _ {S : Type 0} (D : Device S) where
   abbrev EndOf : Bench S → ℕ → List ℕ → Type 0
   EndOf p room input =
       let f = feedOpen D p room input in
       EndsWith (f .bench .carried) (room - length (f .answers)) (drop (f .consumed) input) (f .number)
 
-  -- A CALL GOES ON AS LONG AS IT CAN: it ends for one of these three reasons, and its number says which
-  pub ends-exactly : (p : Bench S) (room : ℕ) (input : List ℕ) → Partial (p .carried) → EndOf p room input
+  ends : (p : Bench S) (room : ℕ) (input : List ℕ) → Partial (p .carried) → EndOf p room input
   unfolding feedOpen
-  ends-exactly p room [] h = all-consumed refl refl
-  ends-exactly p room (b ∷ bs) h = go (way D p room b) (λ p′ room′. ends-exactly p′ room′ bs)
+  ends p room [] h = all-consumed refl refl
+  ends p room (b ∷ bs) h = go (way D p room b) (λ p′ room′. ends p′ room′ bs)
     where
       go : Way D p room b → ((p′ : Bench S) (room′ : ℕ) → Partial (p′ .carried) → EndOf p′ room′ bs) → EndOf p room (b ∷ bs)
       go (carries e j w) ih =
           rw (w, sub-zero, one-add) (ih (record { state = p .state; carried = p .carried ++ b ∷ []; broken = false }) room (partial-more D (p .carried) b h e j))
       go (full e j r w) ih = rw w (no-room b bs refl refl (next-last (p .carried) b h e j) (omega arith))
-      go (ends e j r w) ih =
+      go (ends-record e j r w) ih =
           let x = D .run (p .state) (p .carried ++ b ∷ []) in
           let q : Bench S = record { state = x .state; carried = []; broken = false } in
           let a = feedOpen D q (room - length (x .answer)) bs .answers in
           let n : room - length (x .answer ++ a) ≡ room - length (x .answer) - length a = omega (arith, length-append (x .answer) a) in
           rw (w, one-add, n) (ih q (room - length (x .answer)) tt)
       go (unknown-kind e w) ih = let n = none-carried D (p .carried) b h e in rw w (no-kind b bs refl refl (n .0) (n .1))
+
+-- A CALL GOES ON AS LONG AS IT CAN
+pub ends-exactly : {S : Type 0} (D : Device S) → EndsExactly D
+ends-exactly D p room input e = ends D p room input (begun-partial (p .carried) e)
 
 -- ---- Answers
 module _ {S : Type 0} (D : Device S) where
@@ -179,7 +164,7 @@ module _ {S : Type 0} (D : Device S) where
           let i = ih (record { state = p .state; carried = p .carried ++ b ∷ []; broken = false }) room in
           rw (w, sub-zero) (record { consumed = omega (arith, i .consumed); written = i .written })
       go (full e j r w) ih = rw w (record { consumed = omega arith; written = omega arith })
-      go (ends e j r w) ih =
+      go (ends-record e j r w) ih =
           let x = D .run (p .state) (p .carried ++ b ∷ []) in
           let i = ih (record { state = x .state; carried = []; broken = false }) (room - length (x .answer)) in
           rw w (record {
@@ -225,31 +210,16 @@ module _ {S H : Type 0} (L : Lent S H) where
   called-none h = refl
 
   module _ (h : H) (Good : S → Type 0) (K : Keeps L h Good) where
-    -- DEMAND 3 AS 01 SAYS IT: from accepted memory, unbroken and with nothing carried, the calls are the plain bench on the bytes that they consumed
-    pub from-fresh : (cs : List Call) → Fresh L h → BytesIn cs → FromFresh L h (calls L h cs)
-    from-fresh cs f i =
-        let z = calls L h cs in
-        let q = claim L h Good K cs (rw (f .carries) tt) i in
-        let e : plain (L .device) (L .view h .state) (L .view h .carried ++ z .bytes) ≡ plain (L .device) (L .view h .state) (z .bytes) =
-        ap (λ (c : List ℕ). plain (L .device) (L .view h .state) (c ++ z .bytes)) (f .carries) in
-        let b = q .bench (f .accepted) in
-        record {
-          answers = q .answers (f .accepted) ∙ ap (λ (y : Benched S). y .answers) e;
-          device = ap (λ (p : Bench S). p .state) b ∙ ap (λ (y : Benched S). y .state) e;
-          carried = ap (λ (p : Bench S). p .carried) b ∙ ap (λ (y : Benched S). y .carried) e;
-          broken = ap (λ (p : Bench S). p .broken) b ∙ ap (λ (t : Bool). t || gave 31 (z .outcomes)) (f .unbroken);
-        }
-
     -- HOW A TRACE IS CUT INTO CALLS DOESN'T MATTER: two lists of calls that consume the same bytes give the same answers, and leave the same device and the same bytes carried
-    pub cut-alike : (cs ds : List Call) → Fresh L h → BytesIn cs → BytesIn ds → calls L h cs .bytes ≡ calls L h ds .bytes
+    pub cut-alike : (cs ds : List Call) → Start L h → BytesIn cs → BytesIn ds → calls L h cs .bytes ≡ calls L h ds .bytes
         → (calls L h cs .answers ≡ calls L h ds .answers)
         × (L .view (calls L h cs .held) .state ≡ L .view (calls L h ds .held) .state)
         × (L .view (calls L h cs .held) .carried ≡ L .view (calls L h ds .held) .carried)
     cut-alike cs ds f i j e =
-        let a = from-fresh cs f i in
-        let b = from-fresh ds f j in
+        let a = one-trace L h Good K cs (rw (f .noneCarried) tt) i .demand f in
+        let b = one-trace L h Good K ds (rw (f .noneCarried) tt) j .demand f in
         let p = ap (plain (L .device) (L .view h .state)) e in (
           a .answers ∙ ap (λ (y : Benched S). y .answers) p ∙ sym (b .answers),
-          a .device ∙ ap (λ (y : Benched S). y .state) p ∙ sym (b .device),
-          a .carried ∙ ap (λ (y : Benched S). y .carried) p ∙ sym (b .carried),
+          ap (λ (y : Bench S). y .state) (a .state) ∙ ap (λ (y : Benched S). y .state) p ∙ sym (ap (λ (y : Bench S). y .state) (b .state)),
+          ap (λ (y : Bench S). y .carried) (a .state) ∙ ap (λ (y : Benched S). y .carried) p ∙ sym (ap (λ (y : Bench S). y .carried) (b .state)),
         )

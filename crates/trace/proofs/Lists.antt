@@ -1,13 +1,12 @@
 -- Laws of bytes with zeros after them, of carried bytes with an input after them, and of lists of bytes.
-use Prim.Native.Nat.{ℕ, zero, suc, _+_, _-_, _≤_, _<_}
+use Prim.Native.Nat.{ℕ, _+_, _-_, _≤_, _<_}
 use mathlib.Core.Path.{_≡_, ap, sym, _∙_}
-use mathlib.Core.List.{List, [], _∷_, _++_}
+use mathlib.Core.List.{List, _++_}
 use native.Mathlib.Omega.{arith}
-use native.Mathlib.Numerals.{add-one}
-use lib.ListN.{length, getD, take, drop, set, replicate, length-append, length-replicate, List·getD-append}
-use lib.Seq.{take-append-seam, set-append-seam, append-snoc, length-take-le, getD-append-add, drop-append-add, getD-take, take-suc}
+use lib.ListN.{length, getD, take, drop, set, length-append, List·getD-append}
+use lib.Seq.{length-take-le, getD-append-add, drop-append-add, getD-take}
 use Rattle.bits.proofs.Lists.{length-padded, take-padded, padded-more}
-use Rattle.trace.specs.Format.{pad, Bytes}
+use Rattle.trace.specs.Format.{pad}
 
 -- ---- bytes with zeros after them
 pub length-pad : (m : ℕ) (c : List ℕ) → length c ≤ m → length (pad m c) ≡ m
@@ -37,28 +36,3 @@ pub drop-joined : (c input : List ℕ) (len at : ℕ) → len ≤ at → len ≤
 drop-joined c input len at h k =
     let e : at ≡ length (take len c) + (at - len) = omega (arith, length-take-le len c k) in
     ap (λ (n : ℕ). drop n (take len c ++ input)) e ∙ drop-append-add (take len c) input (at - len)
-
--- ---- lists of bytes
--- each element below 256, as code knows it of a slice or an array
-pub bytes-of : (l : List ℕ) → ((i : ℕ) → i < length l → getD l i 0 < 256) → Bytes l
-bytes-of [] h = tt
-bytes-of (b ∷ bs) h = (h 0 (omega arith), bytes-of bs (λ i j. h (suc i) (omega arith)))
-
-pub byte-at : (l : List ℕ) (i : ℕ) → Bytes l → getD l i 0 < 256
-byte-at [] i h = omega arith
-byte-at (b ∷ bs) zero h = h .0
-byte-at (b ∷ bs) (suc i) h = byte-at bs i (h .1)
-
-pub bytes-append : (a b : List ℕ) → Bytes a → Bytes b → Bytes (a ++ b)
-bytes-append [] b h j = j
-bytes-append (x ∷ a) b h j = (h .0, bytes-append a b (h .1) j)
-
-pub bytes-take : (n : ℕ) (l : List ℕ) → Bytes l → Bytes (take n l)
-bytes-take zero l h = tt
-bytes-take (suc n) [] h = tt
-bytes-take (suc n) (b ∷ bs) h = (h .0, bytes-take n bs (h .1))
-
-pub bytes-drop : (n : ℕ) (l : List ℕ) → Bytes l → Bytes (drop n l)
-bytes-drop zero l h = h
-bytes-drop (suc n) [] h = tt
-bytes-drop (suc n) (b ∷ bs) h = bytes-drop n bs (h .1)

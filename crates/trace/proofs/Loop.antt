@@ -12,11 +12,12 @@ use lib.Dec.{ltb, eqb}
 use borrow.Author.Tests.{le-leb, ltb-true, ltb-false}
 use Rattle.trace.specs.Format.{sizeOf, known, body, longest, Next, complete, incomplete, unknown, next, begun, Bytes}
 use Rattle.trace.specs.Bench.{Device, Ran, Bench}
-use Rattle.trace.specs.Feed.{Fed, kindAt, feedOpen, later, stopped, wholeSize, endNumber, endCount}
+use Rattle.trace.specs.Feed.{Fed, kindAt, feedOpen, later, stopped}
+use Rattle.trace.specs.inner.Gathered.{wholeSize, endNumber, endCount}
 use Rattle.trace.specs.Lent.{Lent, refusalOr31, leaves, feeds}
-use Rattle.trace.specs.Claim.{RunKeeps}
+use Rattle.trace.specs.inner.Keeps.{RunKeeps}
 use Rattle.trace.proofs.Tests.{if-cases}
-use Rattle.trace.proofs.Lists.{bytes-append, bytes-take, bytes-drop}
+use Rattle.bits.proofs.Bytes.{bytes-append, bytes-take, bytes-drop}
 use Rattle.trace.proofs.Records.{carrying, later-zero, later-later, joined, length-whole, Complete, complete-at, incomplete-at, feed-complete, feed-full, feed-incomplete, feed-unknown}
 use Rattle.trace.proofs.Gathering.{body-within, short-partial, begun-partial}
 use Rattle.trace.proofs.Refusing.{goes-on, feeds-open}

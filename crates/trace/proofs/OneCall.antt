@@ -11,10 +11,11 @@ use borrow.Author.Tests.{le-leb}
 use Rattle.trace.specs.Format.{known, body, complete, next, Bytes}
 use Rattle.trace.specs.Bench.{Device, Bench, cut, runs, plain}
 use Rattle.trace.specs.Outcome.{Outcome, scan, outcome}
-use Rattle.trace.specs.Feed.{kindAt, Fed, stopped, feedOpen, feed}
-use Rattle.trace.specs.Claim.{RunKeeps}
+use Rattle.trace.specs.Feed.{kindAt, Fed, stopped, feedOpen}
+use Rattle.trace.specs.inner.OneCall.{feed}
+use Rattle.trace.specs.inner.Keeps.{RunKeeps}
 use Rattle.trace.proofs.Tests.{if-true, if-false}
-use Rattle.trace.proofs.Lists.{bytes-append}
+use Rattle.bits.proofs.Bytes.{bytes-append}
 use Rattle.trace.proofs.Cutting.{Partial, cut-append}
 use Rattle.trace.proofs.Feeding.{Way, way, carries, full, ends, unknown, partial-more, answered, left-as, plain-partial, feed-plain, feed-scan}
 

@@ -1,6 +1,6 @@
 -- DEMAND 3, for any device: every list of calls is one trace on the plain bench.
 use Prim.Native.Nat.{ℕ, zero, suc, _-_, _<_}
-use mathlib.Core.Path.{_≡_, refl, ap, sym, _∙_}
+use mathlib.Core.Path.{_≡_, refl, ap, sym, subst, _∙_}
 use mathlib.Core.Bool.{Bool, true, false, _||_, true≢false, or-assoc, or-false}
 use mathlib.Core.List.{List, [], _∷_, _++_, append-nil, append-assoc}
 use native.Mathlib.Omega.{arith}
@@ -14,13 +14,14 @@ use Rattle.trace.specs.Bench.{Device, Bench, Benched, cut, plain}
 use Rattle.trace.specs.Outcome.{Outcome, unknownNext, scan, outcome, outcomeOf}
 use Rattle.trace.specs.Feed.{feedOpen}
 use Rattle.trace.specs.Lent.{Lent, Left, outcomeIn, refusal, feeds}
-use Rattle.trace.specs.Calls.{Call, Came, slicesOf, BytesIn, calls, gave, beyond, placed, allGive, expectedFrom, expected}
-use Rattle.trace.specs.Claim.{Keeps, benchAfter, Claim}
+use Rattle.trace.specs.Calls.{Call, Came, slicesOf, BytesIn, calls, gave, beyond, placed, allGive, expectedFrom}
+use Rattle.trace.specs.OneTrace.{IsPlainBench, OneTrace}
+use Rattle.trace.specs.inner.Keeps.{Keeps}
 use Rattle.trace.proofs.Tests.{if-cases}
 use Rattle.trace.proofs.Feeding.{left-as, plain-partial}
 use Rattle.trace.proofs.Gathering.{begun-partial, partial-begun}
 use Rattle.trace.proofs.OneCall.{OneCall, one-call, plain-append, feed-shut, feed-open, Kept, open-keeps}
-use Rattle.trace.proofs.Refusing.{refusal-set-up, refusal-unsound, stops-broken, stops-not, feeds-stopped, feeds-open, all-stopped, all-refused, refused-outcomes}
+use Rattle.trace.proofs.Refusing.{stops-broken, stops-not, goes-on, feeds-stopped, feeds-open, all-stopped, all-refused}
 
 -- ---- an accepted call gives 0, 30 or 31
 scan-number : (rs : List (List ℕ)) (left : List ℕ) (room n : ℕ) → 0 < n → n < 30 → eqb (scan rs left room .number) n ≡ false
@@ -177,20 +178,16 @@ module _ {S H : Type 0} (L : Lent S H) (h₀ : H) (Good : S → Type 0) (K : Kee
   last-valid h (c ∷ cs) v i = last-valid (feeds L h (c .input) (c .answers) .held) cs (step h c v (i .0) .valid) (i .1)
 
   -- THE THEOREM
-  pub claim : (cs : List Call) → Bytes (L .view h₀ .carried) → BytesIn cs → Claim L h₀ cs (calls L h₀ cs)
-  claim cs bytes inputs =
+  pub one-trace : (cs : List Call) → Bytes (L .view h₀ .carried) → BytesIn cs → OneTrace L h₀ cs (calls L h₀ cs)
+  one-trace cs bytes inputs =
       record {
-        answers = λ e. sym (from e .answers ∙ ap (λ (y : Benched S). y .answers ++ z .answers) (start e));
-        bench = λ e. after e;
-        held = λ e b j. from e .fresh b j ∙ ap (L .keep) (after e);
-        broken = λ e b. all-stopped L 30 h₀ cs (stops-broken L h₀ e b);
-        outcomes = outcomes (refusal L h₀) refl;
-        untouched = untouched (refusal L h₀) refl;
+        demand = λ s. subst (λ (c : List ℕ). IsPlainBench L h₀ (c ++ z .bytes) cs z) (s .noneCarried) (carrying (s .accepted));
+        carrying = carrying;
+        refused = λ n e. all-stopped L n h₀ cs e;
         slices = slices (refusal L h₀) refl;
-        numbers = λ e n j k. rw (from e .outcomes) (expected-numbers D (L .view h₀ .state) (L .view h₀ .broken) (L .view h₀ .carried) cs n j k);
+        untouched = untouched (refusal L h₀) refl;
+        memory = λ e j. let g = goes-on L h₀ e in from (g .0) .fresh (g .1) j;
         sound = λ e. from e .valid .accepted;
-        refused = λ n e. all-refused L n h₀ cs (refusal-set-up L h₀ n e);
-        unsound = λ e f. all-refused L 4 h₀ cs (refusal-unsound L h₀ e f);
       }
     where
       z : Came H
@@ -203,12 +200,14 @@ module _ {S H : Type 0} (L : Lent S H) (h₀ : H) (Good : S → Type 0) (K : Kee
       from e =
           since (L .view h₀ .state) (L .view h₀ .carried) h₀ cs (sym (ap (λ (y : Benched S). y .state) (start e))) (sym (ap (λ (y : Benched S). y .carried) (start e))) (valid-start e bytes) inputs
 
-      after : refusal L h₀ ≡ 0 → L .view (z .held) ≡ benchAfter L h₀ z
-      after e = let r = from e in λ k. record { state = r .device k; carried = r .carried k; broken = r .broken k }
-
-      outcomes : (n : ℕ) → refusal L h₀ ≡ n → z .outcomes ≡ expected D n (L .view h₀) cs
-      outcomes zero e = from e .outcomes
-      outcomes (suc n) e = rw (all-refused L n h₀ cs e) (refused-outcomes L D n (L .view h₀ .state) (L .view h₀ .broken) (L .view h₀ .carried) cs)
+      carrying : refusal L h₀ ≡ 0 → IsPlainBench L h₀ (L .view h₀ .carried ++ z .bytes) cs z
+      carrying e =
+          let r = from e in
+          record {
+            answers = sym (r .answers ∙ ap (λ (y : Benched S). y .answers ++ z .answers) (start e));
+            outcomes = rw e (r .outcomes);
+            state = λ k. record { state = r .device k; carried = r .carried k; broken = r .broken k };
+          }
 
       untouched : (n : ℕ) → refusal L h₀ ≡ n → beyond (z .outcomes) (z .slices) ≡ beyond (z .outcomes) (slicesOf cs)
       untouched zero e = from e .untouched

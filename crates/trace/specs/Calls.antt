@@ -80,7 +80,7 @@ abbrev pub allRefused : {H : Type 0} → ℕ → H → List Call → Came H
 allRefused n h cs = record { bytes = []; answers = []; outcomes = allGive n cs; slices = slicesOf cs; held = h }
 
 module _ {S : Type 0} (D : Device S) where
-  -- Each call's outcome, from the refusal at the start, its input, its room, and the plain bench before it: started in s, and run on
+  -- Each call's outcome, from the refusal at the start (it is every call's: the set-up is one, and soundness stays), its input, its room, and the plain bench before it: started in s, and run on
   -- `done`, the bytes consumed so far; broken from the first call on that gave 31
   unfoldable pub expectedFrom : (refusal : ℕ) → S → (broken : Bool) → (done : List ℕ) → List Call → List Outcome
   expectedFrom refusal s broken done [] = []
@@ -90,3 +90,7 @@ module _ {S : Type 0} (D : Device S) where
 
   abbrev pub expected : (refusal : ℕ) → Bench S → List Call → List Outcome
   expected refusal p cs = expectedFrom refusal (p .state) (p .broken) (p .carried) cs
+
+  -- the state of the plain bench, started in s, after a trace, broken or not
+  abbrev pub benchAfter : S → (trace : List ℕ) → (broken : Bool) → Bench S
+  benchAfter s trace broken = record { state = plain D s trace .state; carried = plain D s trace .carried; broken = broken }

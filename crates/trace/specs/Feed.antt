@@ -4,7 +4,7 @@ use mathlib.Core.Bool.{true, false}
 use mathlib.Core.List.{List, [], _∷_, _++_}
 use lib.ListN.{length}
 use lib.Dec.{ltb}
-use Rattle.trace.specs.Format.{if_then_else_, known, body, Next, complete, incomplete, unknown}
+use Rattle.trace.specs.Format.{if_then_else_, known, body}
 use Rattle.trace.specs.Bench.{Device, Ran, Bench}
 
 -- what one call comes to: the bench after it, its number, how many bytes it consumed, and the answers that it wrote, joined
@@ -62,29 +62,7 @@ module _ {S : Type 0} (D : Device S) where
       then (if ltb (length (p .carried)) (body kind) then carriesOn p b else endsRecord p room b)
       else breaks p
 
+  -- ONE CALL that isn't refused, at an unbroken bench: byte by byte, until a byte ends it or none is left
   unfoldable pub feedOpen : Bench S → ℕ → List ℕ → Fed S
   feedOpen p room [] = stopped 0 p
   feedOpen p room (b ∷ bs) = goOn room (byte p room b) (λ p′ room′. feedOpen p′ room′ bs)
-
-  -- ONE CALL: a broken trace stays broken, and nothing is consumed
-  unfoldable pub feed : Bench S → ℕ → List ℕ → Fed S
-  feed p room input = if p .broken then stopped 31 p else feedOpen p room input
-
--- ---- What stands next in a call's trace, for code that goes record by record
--- how many bytes the record in front has, if it is whole and there is room for its answer; 0 where the call ends
-abbrev pub wholeSize : (room : ℕ) → Next → ℕ
-wholeSize room (complete r) = if ltb room 8 then 0 else length r
-wholeSize room incomplete = 0
-wholeSize room unknown = 0
-
--- where it ends: its number
-abbrev pub endNumber : Next → ℕ
-endNumber (complete r) = 30
-endNumber incomplete = 0
-endNumber unknown = 31
-
--- and how many of the bytes bs are carried: of a whole record, for which there is no room, all but the last
-abbrev pub endCount : (bs : List ℕ) → Next → ℕ
-endCount bs (complete r) = length r - 1
-endCount bs incomplete = length bs
-endCount bs unknown = 0

@@ -1,9 +1,11 @@
 -- The format of a trace: records one after the other, each a byte of kind and then a body.
-use Prim.Native.Nat.{ℕ, _-_, _<_}
+use Prim.Native.Nat.{ℕ, _-_}
 use mathlib.Core.Bool.{Bool, true, false, _&&_}
 use mathlib.Core.List.{List, [], _∷_, _++_}
 use lib.ListN.{length, getD, take, replicate}
 use lib.Dec.{leb, ltb}
+-- each number of a list is a byte
+pub use Rattle.bits.specs.Bytes.{Bytes}
 
 infixr 10 if_then_else_
 abbrev pub if_then_else_ : {A : Type 0} → Bool → A → A → A
@@ -53,11 +55,6 @@ begun [] = true
 begun (kind ∷ rest) = known kind && ltb (length rest) (body kind)
 
 -- ---- Bytes
--- each number is a byte
-abbrev pub Bytes : List ℕ → Type 0
-Bytes [] = Unit {0}
-Bytes (b ∷ bs) = (b < 256) × Bytes bs
-
 -- bytes with zeros after them, n in all
 abbrev pub pad : ℕ → List ℕ → List ℕ
 pad n bs = bs ++ replicate (n - length bs) 0

@@ -1,7 +1,8 @@
 -- A call of feed on what the caller lends: refusals, and every lent byte afterwards.
 use Prim.Native.Nat.{ℕ, zero, suc}
-use mathlib.Core.Bool.{Bool}
-use mathlib.Core.List.{List, _++_}
+use mathlib.Core.Path.{_≡_}
+use mathlib.Core.Bool.{Bool, false}
+use mathlib.Core.List.{List, [], _++_}
 use lib.ListN.{length, drop}
 use Rattle.trace.specs.Format.{if_then_else_}
 use Rattle.trace.specs.Bench.{Device, Bench}
@@ -65,3 +66,9 @@ module _ {S H : Type 0} (L : Lent S H) where
   unfoldable pub feeds : H → (input answers : List ℕ) → Left H
   feeds h input answers =
       unless (refusalOr31 h) (unchanged h answers) (leaves (feedOpen (L .device) (L .view h) (length answers) input) answers)
+
+  -- WHERE DEMAND 3 STARTS: a sound port, its set-up not refused, unbroken, with nothing carried
+  pub record Start (h : H) : Type 0 where
+    pub accepted : refusal h ≡ 0
+    pub noneCarried : L .view h .carried ≡ []
+    pub unbroken : L .view h .broken ≡ false

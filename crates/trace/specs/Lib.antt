@@ -4,4 +4,6 @@ pub mod Outcome
 pub mod Feed
 pub mod Lent
 pub mod Calls
-pub mod Claim
+pub mod Exactly
+pub mod OneTrace
+pub mod inner

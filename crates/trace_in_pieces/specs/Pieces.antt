@@ -2,13 +2,19 @@
 use Prim.Native.Nat.{ℕ, zero, suc, _+_}
 use mathlib.Core.Bool.{cond, _&&_}
 use mathlib.Core.List.{List, _++_}
-use lib.ListN.{length, take, drop}
+use lib.ListN.{length, take, drop, replicate}
 use lib.Dec.{eqb, ltb}
 use Rattle.trace.specs.Lent.{Left, unchanged}
 use Rattle.readiness.specs.declared.Setup.{Setup}
-use Rattle.demand3.specs.Held.{Held}
+use Rattle.readiness.specs.Status.{down}
+use Rattle.records.specs.Blank.{blankPort}
+use Rattle.demand3.specs.Held.{Held, held, lentOf}
 use Rattle.demand3.specs.SettingUp.{setsUp}
 use Rattle.demand3.specs.Feeding.{feeds}
+
+-- a blank port, every slot Down, and these live registers and queue cells
+abbrev pub blankHeld : Setup → (live cells : List ℕ) → Held
+blankHeld setup live cells = held blankPort (lentOf (setup .slots) (replicate 32 down)) live cells
 
 -- how many of the bytes that are left the next piece has; a size of 0 stands for all of them
 abbrev pub pieceOf : (size left : ℕ) → ℕ

@@ -6,8 +6,8 @@ use Rattle.trace.specs.Calls.{Call, Came, BytesIn}
 use Rattle.readiness.specs.declared.Setup.{Setup}
 use Rattle.demand3.specs.Held.{Held}
 use Rattle.demand3.specs.Feeding.{calls}
-use Rattle.demand3.specs.Claim.{Typed}
-use Rattle.demand3.proofs.Demand3.{demand-3}
+use Rattle.demand3.specs.Compared.{Typed}
+use Rattle.demand3.proofs.Demand3.{shows, demand-3}
 use Rattle.lent_calls.specs.Chain.{LentCall, Chained}
 use Rattle.lent_calls.proofs.Theorem.{chained}
 use Rattle.two_calls.specs.declared.Both.{Both}
@@ -21,4 +21,4 @@ two-calls setup defaults h c d k r e = ap (λ (s : Both). came s (c .input) (d .
 
 -- A LIST OF CALLS is said by the plain bench
 pub by-plain-bench : (setup : Setup) (defaults : List ℕ) (h : Held) → Typed setup h → (cs : List Call) → BytesIn cs → (z : Came Held) → z ≡ calls setup defaults h cs → ByPlainBench setup defaults h z
-by-plain-bench setup defaults h t cs i z e = rw e (λ r. let q = demand-3 setup defaults h t .lists cs i in (q .answers r, q .left r))
+by-plain-bench setup defaults h t cs i z e = rw e (λ r. let q = demand-3 setup defaults h t .lists cs i .carrying r in (q .answers, shows _ _ (q .state)))

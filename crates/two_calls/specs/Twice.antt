@@ -2,13 +2,14 @@
 use Prim.Native.Nat.{ℕ}
 use mathlib.Core.Path.{_≡_}
 use mathlib.Core.Bool.{_||_}
-use mathlib.Core.List.{List, [], _∷_, _++_}
+use mathlib.Core.List.{List, _++_}
 use Rattle.trace.specs.Lent.{Left}
 use Rattle.trace.specs.Calls.{Call, Came, noCall, before, gave as gaveNumber}
 use Rattle.bench.specs.declared.Outcome.{Outcome}
 use Rattle.readiness.specs.declared.Setup.{Setup}
 use Rattle.demand3.specs.Held.{Held, held, carriedOf}
-use Rattle.demand3.specs.Claim.{Shows, refusalOf, plainFrom, plainBench}
+use Rattle.demand3.specs.Feeding.{refusalOf, plainFrom, plainBench}
+use Rattle.demand3.specs.Compared.{Shows}
 use Rattle.two_calls.specs.declared.Both.{Both}
 
 -- a call: its input, and the slice for its answers

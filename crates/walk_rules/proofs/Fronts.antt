@@ -3,7 +3,7 @@
 --     lend-front   the array's cell and what its elements own at the head: for a lifetime ν of the call, its token, the `&mut [T]` on `take k xs` under a name δ, and `FrontOut`
 --     back-front   ν's token, `FrontOut` and the last list ys under δ: the array's cell again, at some machine value of `ys ++ drop k xs`
 -- Assumes `Given`.
-use mathlib.Core.Path.{_≡_, refl, sym, _∙_, ap, subst}
+use mathlib.Core.Path.{_≡_, refl, sym, _∙_}
 use Prim.Native.Nat.{ℕ, _≤_}
 use mathlib.Core.List.{List, [], _∷_, _++_}
 use lib.ListN.{length, take, drop as rest, take-append-drop}
@@ -14,7 +14,7 @@ use mir.Val.{Val}
 use base.Fml.{GName, Fml, fsep, flft, flent, fat}
 use prog.Wp.{Heap}
 use ghost.Atoms.{Atoms}
-use types.Kit.{Goal, Soaks, Given, Item, ‵, _⊛_, some, later, Seq, Step, step, _$_, _∵_, move, drop, use1, use2, use3, split, pick, rewrite, fsplit, fjoin, feqL, feqI, await}
+use types.Kit.{Goal, Soaks, Given, Item, ‵, _⊛_, some, later, Seq, _$_, move, drop, use1, use2, use3, split, pick, rewrite, fsplit, fjoin, feqL, feqI, await}
 use types.Tokens.{lft-new, lft-end}
 use types.SemTy.{cells, Arr}
 use types.Share.{arr-parts}

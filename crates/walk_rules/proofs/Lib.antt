@@ -3,6 +3,5 @@ pub mod Walks
 pub mod Lent
 pub mod Locals
 pub mod Fronts
-pub mod Items
 pub mod Total
 pub mod Frees

@@ -1,5 +1,6 @@
 -- `bench::feed` meets its contract: a walk of its MIR, by hand. The statuses are lent to `load` as a `&`; the borrow of the port is opened and the port is copied out; `feed::feed` is called, to which the other slices go for good; `port_fed`, `statuses_fed` and `outcome_of` take what it gave apart, so that no step here looks into so large a struct; the new port is stored, the statuses are lent to `store`, and the port's borrow is closed.
 -- All that the proof knows of the callees is that each meets its contract.
+-- Written by `tools/walks/write bench feed`.
 use mathlib.Core.Path.{_≡_, refl, ap, sym, _∙_}
 use Prim.Native.Nat.{ℕ}
 use mathlib.Core.List.{[], _∷_, List}
@@ -64,17 +65,13 @@ use Rattle.feed.proofs.feed as core
 use Rattle.feed.proofs.feed.Symbol as core-def
 use Rattle.feed.proofs.feed.Symbol.{name as #feed·feed}
 use Rattle.feed.proofs.feed.Met as core-thm
-use Rattle.lent_statuses.specs.inner.Statuses.{storedOver}
-use Rattle.bench.specs.Entries.{leftByFeed}
+use Rattle.lent_statuses.specs.Statuses.{storedOver}
+use Rattle.bench.specs.Entries.{leftByFeed, outcomeIs}
 use Rattle.bench.proofs.Values.{setup-val, port-vals, setup-vals, port-tells, setup-tells}
 use Rattle.bench.proofs.Padding.{fed-as-lent}
 use Rattle.bench.specs.declared.Outcome.{Outcome}
 use Rattle.bench.proofs.Outcome as O
 use Rattle.bench.proofs.Outcome.Laws as O′
-use Rattle.bench.proofs.outcome_of as outcome
-use Rattle.bench.proofs.outcome_of.Symbol as outcome-def
-use Rattle.bench.proofs.outcome_of.Symbol.{name as #bench·outcome-of}
-use Rattle.bench.proofs.outcome_of.Met as outcome-thm
 use Rattle.bench.proofs.port_fed as port-of
 use Rattle.bench.proofs.port_fed.Symbol as port-of-def
 use Rattle.bench.proofs.port_fed.Symbol.{name as #bench·port-fed}
@@ -83,6 +80,10 @@ use Rattle.bench.proofs.statuses_fed as statuses-of
 use Rattle.bench.proofs.statuses_fed.Symbol as statuses-of-def
 use Rattle.bench.proofs.statuses_fed.Symbol.{name as #bench·statuses-fed}
 use Rattle.bench.proofs.statuses_fed.Met as statuses-of-thm
+use Rattle.bench.proofs.outcome_of as outcome
+use Rattle.bench.proofs.outcome_of.Symbol as outcome-def
+use Rattle.bench.proofs.outcome_of.Symbol.{name as #bench·outcome-of}
+use Rattle.bench.proofs.outcome_of.Met as outcome-thm
 use Rattle.lent_statuses.proofs.load as load
 use Rattle.lent_statuses.proofs.load.Symbol as load-def
 use Rattle.lent_statuses.proofs.load.Symbol.{name as #lent-statuses·load}
@@ -117,9 +118,6 @@ InputS = shrSliceOf (5 ∷ []) tt (plain (λ _. u8))
 abbrev stayed : Stays (f.ended .signature .params) (f.ended .kept)
 stayed = (stay-dropped SetupS yes, (stay-ref (0 ∷ []) tt PortS, (stay-slice (1 ∷ []) tt StatusS, (gave-slice (2 ∷ []) tt (plain (λ _. u32)), (stay-dropped DefaultsS yes, (gave-slice (4 ∷ []) tt (plain (λ _. u32)), (stay-dropped InputS yes, (gave-slice (6 ∷ []) tt (plain (λ _. u8)), tt))))))))
 
-abbrev outcomeIs : Fed → Outcome
-outcomeIs r = record { number = r .number; consumed = r .consumed; written = r .written }
-
 -- ---- the contracts that the proof cites
 module _ {M : Type 1} (𝓤 : URA M) (H : Heap 𝓤) (A : Atoms 𝓤) (at-mem : Memory → SProp 𝓤) (run : Routine → Fun 𝓤) where
   abbrev Load : Contract 𝓤
@@ -131,14 +129,14 @@ module _ {M : Type 1} (𝓤 : URA M) (H : Heap 𝓤) (A : Atoms 𝓤) (at-mem : 
   abbrev Store : Contract 𝓤
   Store = tripleOf 𝓤 H A store′.signature (store′.spec 𝓤 H A at-mem run)
 
-  abbrev OutcomeC : Contract 𝓤
-  OutcomeC = tripleOf 𝓤 H A outcome.signature (outcome.spec 𝓤 H A at-mem run)
-
   abbrev PortC : Contract 𝓤
   PortC = tripleOf 𝓤 H A port-of.signature (port-of.spec 𝓤 H A at-mem run)
 
   abbrev StatusesC : Contract 𝓤
   StatusesC = tripleOf 𝓤 H A statuses-of.signature (statuses-of.spec 𝓤 H A at-mem run)
+
+  abbrev OutcomeC : Contract 𝓤
+  OutcomeC = tripleOf 𝓤 H A outcome.signature (outcome.spec 𝓤 H A at-mem run)
 
   record Known (C : Calls 𝓤 H) : Type 1 where
     load : Triple 𝓤 (C #lent-statuses·load) Load

@@ -1,5 +1,6 @@
 -- `bench::set_up` meets its contract: a walk of its MIR, by hand. The statuses are lent to `load` as a `&`; the borrow of the port is opened and the port is copied out; `set_up::set_up` is called, to which the other slices go for good; `port_made`, `statuses_made` and `number_made` take what it gave apart, so that no step here looks into so large a struct; the new port is stored, the statuses are lent to `store`, and the port's borrow is closed.
 -- All that the proof knows of the callees is that each meets its contract.
+-- Written by `tools/walks/write bench set_up`.
 use mathlib.Core.Path.{_≡_, refl, ap, sym, _∙_}
 use Prim.Native.Nat.{ℕ}
 use mathlib.Core.List.{[], _∷_, List}
@@ -55,7 +56,7 @@ use Rattle.records.specs.declared.Port.{Port}
 use Rattle.set_up.specs.declared.SetUp.{SetUp}
 use Rattle.demand3.specs.Held.{held, lentOf}
 use Rattle.demand3.specs.SettingUp.{setsUp}
-use Rattle.set_up.specs.inner.Prepared.{prepared}
+use Rattle.set_up.specs.Prepared.{prepared}
 use Rattle.records.proofs.Port as P
 use Rattle.records.proofs.Port.Laws as P′
 use Rattle.set_up.proofs.SetUp as R
@@ -64,7 +65,7 @@ use Rattle.set_up.proofs.set_up as core
 use Rattle.set_up.proofs.set_up.Symbol as core-def
 use Rattle.set_up.proofs.set_up.Symbol.{name as #set-up·set-up}
 use Rattle.set_up.proofs.set_up.Met as core-thm
-use Rattle.lent_statuses.specs.inner.Statuses.{storedOver}
+use Rattle.lent_statuses.specs.Statuses.{storedOver}
 use Rattle.bench.specs.Entries.{leftBySetUp}
 use Rattle.bench.proofs.Values.{setup-val, port-vals, setup-vals, port-tells, setup-tells}
 use Rattle.bench.proofs.Padding.{set-up-as-lent}

@@ -1,5 +1,6 @@
 -- `bench_by_value::set_up_first` meets its contract: a walk of its MIR, by hand. The port, a local, and the first k of the statuses, a local array, are lent to `set_up`, each for a lifetime of its own, and come back; `set_up_with`, which is covered, makes the result of them.
 -- All that the proof knows of the callees is that each meets its contract.
+-- Written by `tools/walks/write bench_by_value set_up_first`.
 use mathlib.Core.Path.{_≡_, refl, ap, sym, _∙_}
 use Prim.Native.Nat.{ℕ, _<_, _≤_, _^_, min}
 use mathlib.Core.List.{[], _∷_, List, _++_}
@@ -27,7 +28,7 @@ use denote.RattleType.{RattleType, owns}
 use denote.Laws.{Is, Makes}
 use denote.Plain.{uint-vals, uint-tells, uint-makes, uint-lawful}
 use denote.Array.{Array, array-makes, array-lawful, array-vals, array-tells}
-use denote.Builtin.{u8, u32, usize}
+use denote.Builtin.{u32, usize}
 use denote.Ref.{RefT}
 use denote.Slice.{sliceVal, MutSlice, ShrSlice, Room, slice-vals, mut-slice-tells, shr-slice-tells, finally}
 use denote.Steps.{only, owned, nothing}
@@ -256,7 +257,7 @@ module _ {M : Type 1} (𝓤 : URA M) (H : Heap 𝓤) (A : Atoms 𝓤) (W : Given
         drop ! $
         fsplit ! $
         drop ! $
-        -- [rest; l20; l19; l18; l17; l16; l15; l14; l13; l12; l11; l10; l9; l8; l7; l6; l5; l4; l3; l2; l1; l0; toks]
+        -- [owns; l20; l19; l18; l17; l16; l15; l14; l13; l12; l11; l10; l9; l8; l7; l6; l5; l4; l3; l2; l1; l0; toks]
         assigns ! (of-opd ! (load ! (from ! (stop !)) (look ! 37 refl))) (from ! (stop !)) (init ! 25 refl (LL.lawful P.the-type P′.the-laws 𝓤 H A W .typed h _ gh .0)) $
         assigns ! (of-opd ! (load ! (from ! (stop !)) (look ! 35 refl))) (from ! (stop !)) (init ! 23 refl (array-lawful 𝓤 H A W T.the-row (LL.lawful T.the-type T′.the-laws 𝓤 H A W) 32 .typed xs _ gw .0)) $
         before-plain 𝓤 H A W at-most.ended (at-most.clauses 𝓤 H A at-mem run) to-at-most ! (id⊢ 𝓤 _) (uint-makes 𝓤 H A W w64, (uint-makes 𝓤 H A W w64, tt)) ((refl, gn), ((refl, lit< tt), tt)) (id⊢ 𝓤 _) $
@@ -290,7 +291,7 @@ module _ {M : Type 1} (𝓤 : URA M) (H : Heap 𝓤) (A : Atoms 𝓤) (W : Given
         move ! (3 ∷ 0 ∷ []) $
         join ! $
         before 𝓤 H A W entry.ended (entry.clauses 𝓤 H A at-mem run) (to-entry k l₈ l₉ ν₁ δ₁ ν₂ δ₂) ! (id⊢ 𝓤 _) (id⊢ 𝓤 _) $
-        -- [pre; sk; pk; l20; l19; l18; l17; l16; l15; l14; l13; l12; l11; l10; l7; l6; l5; l4; l3; l2; l1; l0]
+        -- [pre; front kept; port kept; l20; l19; l18; l17; l16; l15; l14; l13; l12; l11; l10; l7; l6; l5; l4; l3; l2; l1; l0]
         calls-at ! fm (Entry 𝓤 H A at-mem run) (known .entry) (to-entry k l₈ l₉ ν₁ δ₁ ν₂ δ₂) (and-then ! (load ! (from ! (stop !)) (look ! 39 refl)) (and-then ! (load ! (from ! (stop !)) (look ! 19 refl)) (and-then ! (load ! (from ! (stop !)) (look ! 15 refl)) (and-then ! (load ! (from ! (stop !)) (look ! 11 refl)) (and-then ! (load ! (from ! (stop !)) (look ! 29 refl)) (and-then ! (load ! (from ! (stop !)) (look ! 7 refl)) (no-more !))))))) (λ u.
         after 𝓤 H A W entry.ended (entry.clauses 𝓤 H A at-mem run) (to-entry k l₈ l₉ ν₁ δ₁ ν₂ δ₂) (‵ (flft (ν₁ ∷ []) fullShare) ⊛ ‵ (flft (ν₂ ∷ []) fullShare) ⊛ Tokens) (id⊢ 𝓤 _) u (λ m es. Said k m es) (λ m es. id⊢ 𝓤 _) ! tt (λ m es e ism.
         land ! (from ! (stop !)) (init ! 22 refl (uint-lawful 𝓤 H A W w8 .typed m _ ism .0)) $ rewrite ! 22 (λ (a : Val). ‵ (fat fullShare (tyInt w8) l₁₁ 0 a)) (ap only (ism .0)) refl $

@@ -6,7 +6,7 @@ use Prim.Native.Nat.{ℕ, _≤_, _<_, _-_, _/_, _%_, max}
 use native.Mathlib.Omega.{arith}
 use lib.ListN.{length, getD, set, length-set}
 use borrow.Author.Needs.{needs}
-use Rattle.registers.specs.Words.{withDefaults}
+use Rattle.registers.specs.inner.Masks.{withDefaults}
 use Rattle.config_space.specs.Functions.{resetWhere}
 use Rattle.config_words.specs.inner.Resetting.{between, byMask}
 use Rattle.config_words.proofs.Spans.{none-yet, not-yet, one-more, all-done}

@@ -3,7 +3,8 @@ use Prim.Native.Nat.{ℕ, _%_}
 use mathlib.Core.Bool.{Bool, _&&_, _||_, cond}
 use lib.Dec.{eqb, leb, ltb}
 use Rattle.registers.specs.declared.Kind.{Kind}
-use Rattle.registers.specs.Words.{pmcsr, deviceControl, linkMask, flrMask, withDefaults}
+use Rattle.registers.specs.Words.{pmcsr, deviceControl}
+use Rattle.registers.specs.inner.Masks.{linkMask, flrMask, withDefaults}
 use Rattle.config_words.specs.declared.ResetMasks.{ResetMasks}
 use Rattle.config_words.specs.declared.LinkMasks.{LinkMasks}
 

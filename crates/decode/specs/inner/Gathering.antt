@@ -2,7 +2,7 @@
 use Prim.Native.Nat.{ℕ}
 use mathlib.Core.List.{List}
 use Rattle.trace.specs.Format.{next}
-use Rattle.trace.specs.Feed.{endNumber, endCount}
+use Rattle.trace.specs.inner.Gathered.{endNumber, endCount}
 use Rattle.decode.specs.declared.Ending.{Ending}
 
 -- the end of a call that completes no record of `rest`: its number, and how many of the bytes are carried

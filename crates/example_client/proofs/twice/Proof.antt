@@ -5,9 +5,9 @@ use denote.Ref.{now}
 use borrow.Author.Needs.{needs}
 use Rattle.trace.specs.Format.{Bytes}
 use Rattle.trace.specs.Calls.{Call}
-use Rattle.trace.proofs.Lists.{bytes-of}
+use Rattle.bits.proofs.Bytes.{bytes-of}
 use Rattle.demand3.specs.Held.{held}
-use Rattle.demand3.specs.Claim.{Typed}
+use Rattle.demand3.specs.Compared.{Typed}
 use Rattle.bench.proofs.Typed.{carried-bytes}
 use Rattle.two_calls.specs.Twice.{lend}
 use Rattle.two_calls.proofs.Laws.{by-plain-bench}

@@ -1,67 +1,45 @@
 -- `feed::feed_lent` meets its contract.
-use Prim.Native.Nat.{ℕ, _<_}
+-- Written by `tools/paths --write feed feed_lent`.
 use native.Mathlib.Omega.{arith}
-use mathlib.Core.Path.{_≡_, refl, sym, _∙_}
-use lib.ListN.{length, getD}
+use mathlib.Core.Path.{refl}
+use lib.ListN.{length}
 use denote.Ref.{now}
-use mir.Syntax.{w8}
-use mir.Val.{Fits}
 use borrow.Author.Needs.{needs}
-use Rattle.trace.specs.Lent.{refusalOr31}
-use Rattle.trace.proofs.Lists.{bytes-of, bytes-take}
-use Rattle.readiness.specs.inner.Phases.{statusesIn}
-use Rattle.demand3.specs.Held.{Held, held}
-use Rattle.demand3.specs.Feeding.{bench}
-use Rattle.feed.specs.Left.{Opens}
-use Rattle.feed.proofs.Accepting.{accepted}
-use Rattle.feed.proofs.NoRecord.{Typed, runs-none}
+use Rattle.trace.specs.Format.{Bytes}
+use Rattle.bits.proofs.Bytes.{bytes-of}
+use Rattle.demand3.specs.Held.{Held}
+use Rattle.set_up.specs.Lent.{heldIn}
+use Rattle.feed.specs.inner.Calls.{Opens}
+use Rattle.feed.proofs.NoRecord.{Typed, typed, runs-none, carries-few, runs-some}
 use Rattle.feed.proofs.feed_lent.Statement.{statement}
 use Rattle.feed.proofs.feed_lent.Tie as tie
 
 -- what the call is lent
 abbrev lent : tie.Start → Held
-lent c = held (c .args .port) (statusesIn (now (c .args .phases))) (now (c .args .live)) (now (c .args .cells))
+lent c = heldIn (c .args .port) (now (c .args .phases)) (now (c .args .live)) (now (c .args .cells))
 
 abbrev entry : tie.After-struct-known → tie.Start
 entry c = c .before .before .before .before .before .before .before .before .before .before
 
--- each carried byte is one, and sixteen of them are kept
-carried-byte : (c : tie.Start) (i : ℕ) → getD (c .args .port .carried) i 0 < 256
-carried-byte c i = let f : Fits w8 (getD (c .args .port .carried) i 0) = search needs in f .fits
+held-in-types : (c : tie.Start) → Bytes (now (c .args .input)) → Typed (c .args .setup) (lent c) (now (c .args .input))
+held-in-types c = typed (c .args .setup) (lent c) (now (c .args .input)) (search needs) (search needs) (search needs) (λ i. search needs)
 
-sixteen : (c : tie.Start) → length (c .args .port .carried) ≡ 16
-sixteen c = search needs
-
-bounds : (c : tie.Start) → (c .args .setup .bus < 256) × (c .args .setup .«port_id» < 65536)
-bounds c = (search needs, search needs)
-
-typed : (c : tie.After-struct-known) → Typed (entry c .args .setup) (lent (entry c)) (now (entry c .args .input))
-typed c =
-    let s = entry c in
-    let p = s .args .port in
-    record {
-      bus = bounds s .0;
-      portId = bounds s .1;
-      sixteen = sixteen s;
-      carried = bytes-take (p .«carried_len») (p .carried) (bytes-of (p .carried) (λ i h. carried-byte s i));
-      fed = bytes-of (now (s .args .input)) (λ i h. omega (arith, c .before .before .before .before .before .shared-slice-known2 .given i));
-    }
+types : (c : tie.After-struct-known) → Typed (entry c .args .setup) (lent (entry c)) (now (entry c .args .input))
+types c = held-in-types (entry c) (bytes-of (now (entry c .args .input)) (λ i h. omega (arith, c .before .before .before .before .before .shared-slice-known2 .given i)))
 
 -- how it begins
 begins : (c : tie.After-struct-known)
     → Opens (entry c .args .setup) (now (entry c .args .defaults)) (lent (entry c)) (now (entry c .args .input)) (length (now (entry c .args .answers))) (c .before .opens .result)
 begins c = c .before .opens .ensures (now (entry c .args .live)) refl
 
-not-refused : (c : tie.Else1) → refusalOr31 (bench (entry (c .before) .args .setup) (now (entry (c .before) .args .defaults))) (lent (entry (c .before))) ≡ 0
-not-refused c = let b = begins (c .before) in sym (b .number) ∙ b .some (omega (arith, c .if1))
-
 opens-requires : tie.Need-opens-requires
 opens-requires c κs = search needs
 
 rests-requires : tie.Need-rests-requires
 rests-requires c κs =
-    let s = entry (c .before) in
-    λ z. accepted (s .args .setup) (now (s .args .defaults)) (lent s) (sym (begins (c .before) .number) ∙ z) (bounds s .0) (bounds s .1) .short
+    let o = c .before in
+    let s = entry o in
+    carries-few (s .args .setup) (now (s .args .defaults)) (lent s) (now (s .args .input)) (now (s .args .answers)) (types o) _ (begins o)
 
 same-length : tie.Need-same-length
 same-length c = search needs
@@ -73,13 +51,13 @@ returns : tie.Need-returns
 returns c =
     let o = c .before .before in
     let s = entry o in
-    runs-none (s .args .setup) (now (s .args .defaults)) (lent s) (now (s .args .input)) (now (s .args .answers)) (typed o) _ (begins o) (c .before .if1 .taken) _ (c .rests .ensures)
+    runs-none (s .args .setup) (now (s .args .defaults)) (lent s) (now (s .args .input)) (now (s .args .answers)) (types o) _ (begins o) (c .before .if1 .taken) _ (c .rests .ensures)
 
 run-records-requires : tie.Need-run-records-requires
 run-records-requires c κs =
     let e = c .before .before .before .before in
-    let b = begins (e .before) in
-    (entry (e .before) .pre, (not-refused e, (omega (arith, e .if1), b .first (b .some (omega (arith, e .if1))))))
+    let s = entry (e .before) in
+    (s .pre, runs-some (s .args .setup) (now (s .args .defaults)) (lent s) (now (s .args .input)) (now (s .args .answers)) _ (begins (e .before)) (omega (arith, e .if1)))
 
 same-length-3 : tie.Need-same-length-3
 same-length-3 c = search needs

@@ -6,8 +6,7 @@ use mathlib.Core.List.{List}
 use lib.ListN.{length, replicate, length-replicate}
 use denote.Ref.{now}
 use borrow.Author.Needs.{needs}
-use Rattle.readiness.specs.inner.Phases.{statusesIn}
-use Rattle.demand3.specs.Held.{held}
+use Rattle.set_up.specs.Lent.{heldIn}
 use Rattle.feed.proofs.Accepting.{accepted}
 use Rattle.feed.proofs.opens.Statement.{statement}
 use Rattle.feed.proofs.opens.Tie as tie
@@ -20,7 +19,7 @@ short : (c : tie.Else1) → entry c .args .port .«carried_len» ≤ 16
 short c =
     let a = entry c .args in
     let live : List ℕ = replicate (a .words) 0 in
-    accepted (a .setup) (now (a .defaults)) (held (a .port) (statusesIn (now (a .phases))) live (now (a .cells)))
+    accepted (a .setup) (now (a .defaults)) (heldIn (a .port) (now (a .phases)) live (now (a .cells)))
     (sym (c .before .refusal .ensures live (length-replicate (a .words) 0)) ∙ c .if1 .left) (search needs) (search needs) .short
 
 refusal-requires : tie.Need-refusal-requires

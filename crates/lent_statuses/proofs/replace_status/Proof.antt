@@ -1,4 +1,5 @@
 -- `lent_statuses::replace_status` meets its contract, by the theorem for every struct.
+-- Written by `tools/walks/write lent_statuses replace_status`.
 use mathlib.Core.Path.{refl}
 use contract.Running.{givenOf, tables, tablesOf}
 use denote.Triple.Spec.{tripleOf}

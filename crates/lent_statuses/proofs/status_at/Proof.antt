@@ -1,4 +1,5 @@
 -- `lent_statuses::status_at` meets its contract, by the theorem for every struct.
+-- Written by `tools/walks/write lent_statuses status_at`.
 use mathlib.Core.Path.{refl}
 use contract.Running.{givenOf, tables, tablesOf}
 use denote.Triple.Spec.{tripleOf}

@@ -1,6 +1,6 @@
 -- `messages::read` meets its contract.
 use mathlib.Core.Path.{sym, ap, ap₂, _∙_}
-use Rattle.messages.specs.Messages.{readMessage, frsWith}
+use Rattle.messages.specs.Messages.{readMessage, frsRead}
 use Rattle.messages.specs.declared.Message.the-variants.{Drs}
 use borrow.Author.Needs.{needs}
 use Rattle.messages.proofs.read.Statement.{statement}
@@ -25,12 +25,12 @@ requester-id-requires-2 c κs = search needs
 frs-reason-requires : tie.Need-frs-reason-requires
 frs-reason-requires c κs = search needs
 
-frs-with-requires : tie.Need-frs-with-requires
-frs-with-requires c κs = search needs
+frs-read-requires : tie.Need-frs-read-requires
+frs-read-requires c κs = search needs
 
 returns-2 : tie.Need-returns-2
 unfolding readMessage
-returns-2 c = simp (sym (c .before .before .before .before .before .before .has-layout .ensures) ∙ c .before .before .before .before .before .if1 .left, sym (c .before .before .before .before .has-layout2 .ensures) ∙ c .before .before .before .if2 .taken) (c .frs-with .ensures ∙ ap₂ frsWith (c .before .before .requester-id2 .ensures) (c .before .frs-reason .ensures))
+returns-2 c = simp (sym (c .before .before .before .before .before .before .has-layout .ensures) ∙ c .before .before .before .before .before .if1 .left, sym (c .before .before .before .before .has-layout2 .ensures) ∙ c .before .before .before .if2 .taken) (c .frs-read .ensures ∙ ap₂ frsRead (c .before .before .requester-id2 .ensures) (c .before .frs-reason .ensures))
 
 returns-3 : tie.Need-returns-3
 unfolding readMessage
@@ -46,6 +46,6 @@ read-spec =
     has-layout-requires-2
     requester-id-requires-2
     frs-reason-requires
-    frs-with-requires
+    frs-read-requires
     returns-2
     returns-3)

@@ -3,7 +3,7 @@ use mathlib.Core.Path.{ap, refl}
 use native.Mathlib.Omega.{arith}
 use Rattle.bits.proofs.Bits.{is-of, is-and, is-or, is-not, is-the}
 use Rattle.registers.specs.declared.Row.{Row}
-use Rattle.registers.specs.Words.{flrMask}
+use Rattle.registers.specs.inner.Masks.{flrMask}
 use borrow.Author.Needs.{needs}
 use Rattle.registers.proofs.flr_mask.Statement.{statement}
 use Rattle.registers.proofs.flr_mask.Tie as tie

@@ -3,7 +3,7 @@ use mathlib.Core.Path.{ap, refl}
 use native.Mathlib.Omega.{arith}
 use Rattle.bits.proofs.Bits.{is-of, is-and, is-or, is-not, is-the}
 use Rattle.registers.specs.declared.Row.{Row}
-use Rattle.registers.specs.Words.{linkMask}
+use Rattle.registers.specs.inner.Masks.{linkMask}
 use borrow.Author.Needs.{needs}
 use Rattle.registers.proofs.link_mask.Statement.{statement}
 use Rattle.registers.proofs.link_mask.Tie as tie

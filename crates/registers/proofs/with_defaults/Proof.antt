@@ -1,6 +1,6 @@
 -- `registers::with_defaults` meets its contract, bit by bit.
 use Rattle.bits.proofs.Bits.{is-arg, is-and, is-or, is-not, is-the}
-use Rattle.registers.specs.Words.{withDefaults}
+use Rattle.registers.specs.inner.Masks.{withDefaults}
 use Rattle.registers.proofs.Rules.{reset-bit}
 use Rattle.registers.proofs.with_defaults.Statement.{statement}
 use Rattle.registers.proofs.with_defaults.Tie as tie

@@ -1,4 +1,5 @@
 -- `run_in_pieces::feed_pieces` meets its contract. The loop has made some of the calls; a call that gives 0 consumes something.
+-- Written by `tools/paths --write run_in_pieces feed_pieces`.
 use Prim.Native.Nat.{ℕ, suc, _+_, _-_, _*_, _^_, _<_}
 use mathlib.Core.Path.{_≡_, refl, ap, _∙_}
 use mathlib.Core.Bool.{cond}

@@ -1,17 +1,15 @@
 -- `run_in_pieces::run_over` meets its contract.
+-- Written by `tools/paths --write run_in_pieces run_over`.
 use Prim.Native.Nat.{ℕ}
 use mathlib.Core.Path.{_≡_, sym, ap, _∙_}
-use lib.ListN.{replicate}
 use denote.Ref.{now}
 use borrow.Author.Needs.{needs}
-use Rattle.readiness.specs.Status.{down}
-use Rattle.records.specs.Blank.{blankPort}
 use Rattle.demand3.specs.Held.{Held, held, lentOf}
 use Rattle.demand3.specs.SettingUp.{Prepared, setsUp}
-use Rattle.set_up.specs.inner.Prepared.{prepared}
+use Rattle.set_up.specs.Prepared.{prepared}
 use Rattle.demand3.proofs.Numbers.{set-up-facts}
 use Rattle.demand3.proofs.Prepared.{set-up-number}
-use Rattle.trace_in_pieces.specs.Pieces.{inPieces}
+use Rattle.trace_in_pieces.specs.Pieces.{blankHeld, inPieces}
 use Rattle.trace_in_pieces.proofs.Pieces.{stop, set-up-ran}
 use Rattle.run_in_pieces.proofs.run_over.Statement.{statement}
 use Rattle.run_in_pieces.proofs.run_over.Tie as tie
@@ -21,7 +19,7 @@ entry c = c .before .before .before .before .before .before .before .before .bef
 
 -- what the set-up is lent
 abbrev lent : tie.After-set-up → Held
-lent c = let a = entry c .args in held blankPort (lentOf (a .setup .slots) (replicate 32 down)) (now (a .live)) (now (a .cells))
+lent c = let a = entry c .args in blankHeld (a .setup) (now (a .live)) (now (a .cells))
 
 -- what it leaves
 abbrev leaves : tie.After-set-up → Prepared

@@ -10,7 +10,8 @@ use Rattle.demand3.specs.Held.{Held, held, lentOf}
 use Rattle.demand3.specs.Refusals.{setUpRefusal}
 use Rattle.demand3.specs.SettingUp.{Prepared}
 use Rattle.set_up.proofs.Lent.{length-lent}
-use Rattle.demand3.proofs.Refusals.{refusal-held, Fits, fits-of, set-up-fits}
+use Rattle.demand3.specs.GivenForNo.{Fits}
+use Rattle.demand3.proofs.Refusals.{refusal-held, fits-of, set-up-fits}
 use Rattle.demand3.proofs.SettingUp.{set-up-no, set-up-yes}
 use Rattle.set_up.proofs.SettingUp.{fresh-left}
 use Rattle.set_up.proofs.set_up.Statement.{statement}

@@ -16,14 +16,14 @@ returns c =
     let x = root (now (a .cells)) (a .port) in
     sym (no-frs x) ∙ ap (λ (l : List Frs). frsArrive l x) (sym (slot-quiet (a .bus) (a .entry) (a .slot) (a .cause) (not-true (a .entry .«sends_frs») (c .if1 .taken))))
 
-frs-reason-requires : tie.Need-frs-reason-requires
-frs-reason-requires c κs = search needs
+reason-after-requires : tie.Need-reason-after-requires
+reason-after-requires c κs = search needs
 
 returns-2 : tie.Need-returns-2
 returns-2 c =
     let a = c .before .before .before .before .before .args in
     let x = root (now (a .cells)) (a .port) in
-    sym (no-frs x) ∙ ap (λ (l : List Frs). frsArrive l x) (sym (slot-none (a .bus) (a .entry) (a .slot) (a .cause) _ (c .before .frs-reason .ensures) (c .if2 .taken)))
+    sym (no-frs x) ∙ ap (λ (l : List Frs). frsArrive l x) (sym (slot-none (a .bus) (a .entry) (a .slot) (a .cause) _ (c .before .reason-after .ensures) (c .if2 .taken)))
 
 mul-id : tie.Need-mul-id
 mul-id c = search needs
@@ -45,14 +45,14 @@ returns-3 c =
     let a = c .before .before .before .before .before .before .before .before .before .args in
     let x = root (now (a .cells)) (a .port) in
     c .before .before .frs-arrives .ensures
-    ∙ ap (λ (l : List Frs). frsArrive l x) (sym (slot-one (a .bus) (a .entry) (a .slot) (a .cause) _ (c .before .before .before .before .before .frs-reason .ensures) (not-false (a .entry .«sends_frs») (c .before .before .before .before .before .before .if1 .left)) (c .before .before .before .before .if2 .left)))
+    ∙ ap (λ (l : List Frs). frsArrive l x) (sym (slot-one (a .bus) (a .entry) (a .slot) (a .cause) _ (c .before .before .before .before .before .reason-after .ensures) (not-false (a .entry .«sends_frs») (c .before .before .before .before .before .before .if1 .left)) (c .before .before .before .before .if2 .left)))
 
 pub slot-frs-arrives-spec : {M : Type 1} → statement M
 slot-frs-arrives-spec =
     tie.close
     (tie.spec
     returns
-    frs-reason-requires
+    reason-after-requires
     returns-2
     mul-id
     cast-id

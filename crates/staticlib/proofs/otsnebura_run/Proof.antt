@@ -1,7 +1,7 @@
 -- `staticlib::otsnebura_run` meets its contract.
 use mathlib.Core.Path.{ap, sym, _∙_}
 use borrow.Author.Needs.{needs}
-use Rattle.staticlib.specs.Run.{runOnCard, runOf}
+use Rattle.library_run.specs.Run.{runOnCard, runOf}
 use Rattle.card_grammar.specs.Card.{Outcome}
 use Rattle.bits.proofs.Choices.{when-true, when-false}
 use Rattle.staticlib.proofs.Showing.{off, on}

@@ -7,8 +7,9 @@ use native.Mathlib.Omega.{arith}
 use lib.Seq.{sets}
 use lib.ListN.{length, take, drop, length-take}
 use borrow.Author.Needs.{needs}
-use Rattle.staticlib.proofs.Showing.{sets-front, lent-front, length-image}
-use Rattle.staticlib.specs.Run.{shown, imageOf, showing}
+use Rattle.library_run.proofs.Laws.{lengths}
+use Rattle.staticlib.proofs.Showing.{sets-front, lent-front}
+use Rattle.library_run.specs.Run.{shown, imageOf, showing}
 use Rattle.feed.specs.Left.{left}
 use Rattle.demand3.specs.Held.{Held, lentOf}
 use Rattle.trace.specs.Lent.{Left}
@@ -60,7 +61,7 @@ returns c = let s = c .before .before .before .before .before .before .before .b
     let ends = c .before .before .before .put-image .ensures .1 in
     let w : length live ≡ 64 * k = o .kept .1 .0 ∙ s .pre .0 in
     let all : length (take k (f .statuses)) ≡ k = omega (arith, length-take k (f .statuses), ends) in
-    let size = length-image (f .consumed) (f .written) (f .port) (take k (f .statuses)) live cells k (long (c .before .before .before .before .before .before .before .before .before .before .before .before .before .before)) all w in
+    let size = lengths (f .consumed) (f .written) (f .port) (take k (f .statuses)) live cells k (long (c .before .before .before .before .before .before .before .before .before .before .before .before .before .before)) all w .whole in
     let fits : length (imageOf (f .consumed) (f .written) (f .port) (take k (f .statuses)) live cells) ≤ length image = omega (arith, size, s .pre .1, o .kept .1 .1 .1 .0) in
     let e : c .before .before .before .put-image .last .0 ≡ imageOf (f .consumed) (f .written) (f .port) (take k (lentOf n (f .statuses))) live cells ++ drop (length (imageOf (f .consumed) (f .written) (f .port) (take k (lentOf n (f .statuses))) live cells)) image =
     c .before .before .before .put-image .ensures .0

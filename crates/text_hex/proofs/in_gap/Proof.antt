@@ -21,19 +21,19 @@ returns c =
     simp (sym (c .before .before .is-digit .ensures) ∙ c .before .if1 .taken)
     (ap (λ (n : ℕ). Goes (Byte n)) (c .digit-of .ensures))
 
-is-blank-requires : tie.Need-is-blank-requires
-is-blank-requires c κs = search needs
+separates-requires : tie.Need-separates-requires
+separates-requires c κs = search needs
 
 returns-2 : tie.Need-returns-2
 unfolding inGap
-returns-2 c = simp (sym (c .before .before .before .is-digit .ensures) ∙ c .before .before .if1 .left, sym (c .before .is-blank .ensures) ∙ c .if2 .taken)
+returns-2 c = simp (sym (c .before .before .before .is-digit .ensures) ∙ c .before .before .if1 .left, sym (c .before .separates .ensures) ∙ c .if2 .taken)
 
 returns-3 : tie.Need-returns-3
 unfolding inGap
 returns-3 c =
     simp (
       sym (c .before .before .before .before .is-digit .ensures) ∙ c .before .before .before .if1 .left,
-      sym (c .before .before .is-blank .ensures) ∙ c .before .if2 .left,
+      sym (c .before .before .separates .ensures) ∙ c .before .if2 .left,
       eq-eqb _ _ (c .if3 .taken),
     )
 
@@ -42,7 +42,7 @@ unfolding inGap
 returns-4 c =
     simp (
       sym (c .before .before .before .before .is-digit .ensures) ∙ c .before .before .before .if1 .left,
-      sym (c .before .before .is-blank .ensures) ∙ c .before .if2 .left,
+      sym (c .before .before .separates .ensures) ∙ c .before .if2 .left,
       ne-eqb _ _ (c .if3 .left),
     )
 
@@ -53,7 +53,7 @@ in-gap-spec =
     is-digit-requires
     digit-of-requires
     returns
-    is-blank-requires
+    separates-requires
     returns-2
     returns-3
     returns-4)

@@ -3,7 +3,7 @@ use Prim.Native.Nat.{_-_}
 use native.Mathlib.Omega.{arith}
 use borrow.Author.Needs.{needs}
 use lib.ListN.{length}
-use Rattle.text_hex.specs.Room.{held}
+use Rattle.text_hex.specs.inner.Room.{held}
 use Rattle.text_hex.proofs.Loop.{Inv, starts, turns, ends-all, ends-early}
 use Rattle.text_hex.proofs.pack.Statement.{statement}
 use Rattle.text_hex.proofs.pack.Tie as tie

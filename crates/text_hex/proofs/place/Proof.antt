@@ -1,6 +1,6 @@
 -- `text_hex::place` meets its contract.
 use borrow.Author.Tests.{lt-ltb, le-ltb}
-use Rattle.text_hex.specs.Room.{placed}
+use Rattle.text_hex.specs.inner.Room.{placed}
 use borrow.Author.Needs.{needs}
 use Rattle.text_hex.proofs.place.Statement.{statement}
 use Rattle.text_hex.proofs.place.Tie as tie

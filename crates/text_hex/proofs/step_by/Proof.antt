@@ -24,8 +24,8 @@ stop-at-requires c κs = search needs
 past-requires-2 : tie.Need-past-requires-2
 past-requires-2 c κs = search needs
 
-put-byte-requires : tie.Need-put-byte-requires
-put-byte-requires c κs = search needs
+give-byte-requires : tie.Need-give-byte-requires
+give-byte-requires c κs = search needs
 
 enum-told : tie.Need-enum-told
 enum-told c = search needs
@@ -46,7 +46,7 @@ returns-2 c = simp (c .before .before .before .turn2 .given .1, eq-eqb _ _ (c .b
 
 returns-3 : tie.Need-returns-3
 unfolding stepBy
-returns-3 c = simp (c .before .before .before .before .turn2 .given .1, ne-eqb _ _ (c .before .before .if1 .left)) (c .put-byte .ensures ∙ ap (puts _) (c .before .past2 .ensures))
+returns-3 c = simp (c .before .before .before .before .turn2 .given .1, ne-eqb _ _ (c .before .before .if1 .left)) (c .give-byte .ensures ∙ ap (puts _) (c .before .past2 .ensures))
 
 returns-4 : tie.Need-returns-4
 unfolding stepBy
@@ -62,7 +62,7 @@ step-by-spec =
     enum-known-turn-2
     stop-at-requires
     past-requires-2
-    put-byte-requires
+    give-byte-requires
     enum-told
     spoil-requires
     stop-at-requires-2

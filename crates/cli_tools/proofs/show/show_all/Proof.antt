@@ -11,8 +11,8 @@ Inv-loop fd input₀ printed₀ s₀ turns₀ input printed s turns = (length in
 abbrev μ-loop : tie.MeasureT-loop
 μ-loop fd input₀ printed₀ s₀ turns₀ input printed s turns = turns
 
-beginning-requires : tie.Need-beginning-requires Inv-loop μ-loop
-beginning-requires c κs = search needs
+nothing-shown-requires : tie.Need-nothing-shown-requires Inv-loop μ-loop
+nothing-shown-requires c κs = search needs
 
 loop-holds : tie.Need-loop-holds Inv-loop μ-loop
 loop-holds c = search needs
@@ -53,7 +53,7 @@ show-all-spec =
     (tie.spec
     Inv-loop
     μ-loop
-    beginning-requires
+    nothing-shown-requires
     loop-holds
     show-turn-requires
     sub-turns

@@ -23,7 +23,7 @@ there c = length-joined (now (c .args .carried)) (now (c .args .input)) (c .args
 
 -- the size of the record in front
 size-is : (c : tie.After-size-of) → sizeOf (getD (trace (c .before .before .before .before .before)) 0 0) ≡ c .size-of .result
-size-is c = sym (c .size-of .ensures ∙ ap sizeOf (c .before .byte-at .ensures))
+size-is c = sym (c .size-of .ensures ∙ ap sizeOf (c .before .trace-byte .ensures))
 
 add-there : tie.Need-add-there
 add-there c = search needs
@@ -35,8 +35,8 @@ so bs n m e = λ i. record { number = e .number i; count = e .count i }
 returns : tie.Need-returns
 returns c = let s = c .before .before .before in so (trace s) 0 0 (ends-none (trace s) (there s ∙ c .if1 .taken))
 
-byte-at-requires : tie.Need-byte-at-requires
-byte-at-requires c κs = search needs
+trace-byte-requires : tie.Need-trace-byte-requires
+trace-byte-requires c κs = search needs
 
 size-of-requires : tie.Need-size-of-requires
 size-of-requires c κs = search needs
@@ -65,7 +65,7 @@ ending-spec =
     (tie.spec
     add-there
     returns
-    byte-at-requires
+    trace-byte-requires
     size-of-requires
     returns-2
     returns-3

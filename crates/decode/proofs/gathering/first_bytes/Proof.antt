@@ -20,8 +20,8 @@ abbrev μ-loop : tie.MeasureT-loop
 loop-holds : tie.Need-loop-holds Inv-loop μ-loop
 loop-holds c = (omega arith, omega arith, omega arith, omega arith, refl)
 
-byte-at-requires : tie.Need-byte-at-requires Inv-loop μ-loop
-byte-at-requires c κs = search needs
+trace-byte-requires : tie.Need-trace-byte-requires Inv-loop μ-loop
+trace-byte-requires c κs = search needs
 
 array-write-bytes : tie.Need-array-write-bytes Inv-loop μ-loop
 array-write-bytes c = search needs
@@ -41,7 +41,7 @@ loop-again c =
       omega arith,
       omega arith,
       omega arith,
-      ap₂ (λ (o : List ℕ) (b : ℕ). set o (l .j) b) (l .inv .4) (c .byte-at .ensures)
+      ap₂ (λ (o : List ℕ) (b : ℕ). set o (l .j) b) (l .inv .4) (c .trace-byte .ensures)
           ∙ pad-more 17 bs (l .j) (omega arith) (omega (arith, length-joined (now (a .carried)) (now (a .input)) (a .len) (omega arith))),
     )
 
@@ -59,7 +59,7 @@ first-bytes-spec =
     Inv-loop
     μ-loop
     loop-holds
-    byte-at-requires
+    trace-byte-requires
     array-write-bytes
     add-j
     loop-less

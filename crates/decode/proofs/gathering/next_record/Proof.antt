@@ -7,7 +7,7 @@ use Prim.Native.Nat.{ℕ, _-_, _<_}
 use lib.ListN.{length, getD, drop, length-drop}
 use denote.Ref.{now}
 use Rattle.trace.specs.Format.{sizeOf, next}
-use Rattle.trace.specs.Feed.{wholeSize}
+use Rattle.trace.specs.inner.Gathered.{wholeSize}
 use Rattle.trace.proofs.Gathering.{size-within, runs-nothing, runs-none, runs-not, runs-whole}
 use Rattle.records.specs.Decode.{decode}
 use Rattle.decode.specs.declared.Found.{Found}

@@ -1,5 +1,4 @@
 -- `decode::gathering::size_of` meets its contract.
-use mathlib.Core.Path.{sym}
 use Rattle.trace.specs.Format.{sizeOf}
 use Rattle.decode.proofs.Fields.{no-size}
 use Rattle.decode.proofs.gathering.size_of.Statement.{statement}

@@ -22,7 +22,7 @@ there c = length-joined (now (c .args .carried)) (now (c .args .input)) (c .args
 
 -- the size of the record in front
 size-is : (c : tie.After-size-of) → sizeOf (getD (trace (c .before .before .before .before .before)) 0 0) ≡ c .size-of .result
-size-is c = sym (c .size-of .ensures ∙ ap sizeOf (c .before .byte-at .ensures))
+size-is c = sym (c .size-of .ensures ∙ ap sizeOf (c .before .trace-byte .ensures))
 
 add-there : tie.Need-add-there
 add-there c = search needs
@@ -30,8 +30,8 @@ add-there c = search needs
 returns : tie.Need-returns
 returns c = let s = c .before .before .before in runs-nothing (s .args .space) (trace s) (there s ∙ c .if1 .taken)
 
-byte-at-requires : tie.Need-byte-at-requires
-byte-at-requires c κs = search needs
+trace-byte-requires : tie.Need-trace-byte-requires
+trace-byte-requires c κs = search needs
 
 size-of-requires : tie.Need-size-of-requires
 size-of-requires c κs = search needs
@@ -53,7 +53,7 @@ whole-size-spec =
     (tie.spec
     add-there
     returns
-    byte-at-requires
+    trace-byte-requires
     size-of-requires
     returns-2
     returns-3

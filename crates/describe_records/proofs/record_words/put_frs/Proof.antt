@@ -20,15 +20,15 @@ slice-aggregate-put-named c = search needs
 put-named-requires : tie.Need-put-named-requires
 put-named-requires c κs = search needs
 
-put-meaning-requires : tie.Need-put-meaning-requires
-put-meaning-requires c κs = search needs
+put-reason-meaning-requires : tie.Need-put-reason-meaning-requires
+put-reason-meaning-requires c κs = search needs
 
 same-length : tie.Need-same-length
 same-length c = search needs
 
 returns : tie.Need-returns
 unfolding frsText
-returns c = then (then (then (c .before .before .before .before .before .before .before .before .before .before .before .before .before .before .before .put-text .ensures) (c .before .before .before .before .before .before .before .before .before .before .before .put-id .ensures)) (c .before .before .before .before .before .before .put-named .ensures)) (c .before .before .put-meaning .ensures)
+returns c = then (then (then (c .before .before .before .before .before .before .before .before .before .before .before .before .before .before .before .put-text .ensures) (c .before .before .before .before .before .before .before .before .before .before .before .put-id .ensures)) (c .before .before .before .before .before .before .put-named .ensures)) (c .before .before .put-reason-meaning .ensures)
 
 pub put-frs-spec : {M : Type 1} → statement M
 put-frs-spec =
@@ -39,6 +39,6 @@ put-frs-spec =
     put-id-requires
     slice-aggregate-put-named
     put-named-requires
-    put-meaning-requires
+    put-reason-meaning-requires
     same-length
     returns)

@@ -11,15 +11,15 @@ slice-aggregate-put-named c = search needs
 put-named-requires : tie.Need-put-named-requires
 put-named-requires c κs = search needs
 
-put-meaning-requires : tie.Need-put-meaning-requires
-put-meaning-requires c κs = search needs
+put-number-meaning-requires : tie.Need-put-number-meaning-requires
+put-number-meaning-requires c κs = search needs
 
 same-length : tie.Need-same-length
 same-length c = search needs
 
 returns : tie.Need-returns
 unfolding numberText
-returns c = then (c .before .before .before .before .before .before .put-named .ensures) (c .before .before .put-meaning .ensures)
+returns c = then (c .before .before .before .before .before .before .put-named .ensures) (c .before .before .put-number-meaning .ensures)
 
 pub put-number-spec : {M : Type 1} → statement M
 put-number-spec =
@@ -27,6 +27,6 @@ put-number-spec =
     (tie.spec
     slice-aggregate-put-named
     put-named-requires
-    put-meaning-requires
+    put-number-meaning-requires
     same-length
     returns)

@@ -7,8 +7,6 @@ use lib.Dec.{leb}
 use borrow.Author.Tests.{le-leb, lt-leb}
 use Rattle.times.specs.declared.Nanos.{Nanos}
 use Rattle.times.specs.Moments.{sumOf, clockEnd}
-use Rattle.readiness.specs.declared.Dev.{Dev}
-use Rattle.records.specs.declared.Reply.{Reply}
 use Rattle.records.specs.State.{state}
 use Rattle.records.specs.Answer.{answered}
 use Rattle.readiness.specs.Fields.{withClock}

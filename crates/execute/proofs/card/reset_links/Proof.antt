@@ -1,5 +1,5 @@
 -- `execute::card::reset_links` meets its contract: the slots before slot i are reset, one after the other.
-use Prim.Native.Nat.{ℕ, _*_, _-_, _≤_}
+use Prim.Native.Nat.{ℕ, _-_, _≤_}
 use native.Mathlib.Omega.{arith}
 use borrow.Author.Needs.{needs}
 use mathlib.Core.Path.{_≡_, sym, ap, ap₂, _∙_}
@@ -7,7 +7,8 @@ use mathlib.Core.List.{List}
 use lib.ListN.{length}
 use denote.Ref.{now}
 use Rattle.registers.specs.declared.Kind.{Kind}
-use Rattle.config_space.specs.Functions.{linkResetSlot, linkResetBelow}
+use Rattle.config_space.specs.Functions.{linkResetSlot}
+use Rattle.config_space.specs.inner.SlotAfterSlot.{linkResetBelow}
 use Rattle.config_space.proofs.Slots.{slot-after-slot, below-none, below-more, below-length}
 use Rattle.config_words.specs.declared.LinkMasks.{LinkMasks}
 use Rattle.config_words.specs.inner.Resetting.{linkMasksOf}

@@ -4,11 +4,11 @@ use Rattle.records.specs.PortRecords.{statusBits}
 use Rattle.execute.proofs.port.status_bits.Statement.{statement}
 use Rattle.execute.proofs.port.status_bits.Tie as tie
 
-one-requires : tie.Need-one-requires
-one-requires c κs = search needs
+one-if-requires : tie.Need-one-if-requires
+one-if-requires c κs = search needs
 
-one-requires-2 : tie.Need-one-requires-2
-one-requires-2 c κs = search needs
+one-if-requires-2 : tie.Need-one-if-requires-2
+one-if-requires-2 c κs = search needs
 
 mul-u32-of-u8 : tie.Need-mul-u32-of-u8
 mul-u32-of-u8 c = search needs
@@ -16,8 +16,8 @@ mul-u32-of-u8 c = search needs
 add-u32-of-u8 : tie.Need-add-u32-of-u8
 add-u32-of-u8 c = search needs
 
-one-requires-3 : tie.Need-one-requires-3
-one-requires-3 c κs = search needs
+one-if-requires-3 : tie.Need-one-if-requires-3
+one-if-requires-3 c κs = search needs
 
 mul-u32-of-u8-2 : tie.Need-mul-u32-of-u8-2
 mul-u32-of-u8-2 c = search needs
@@ -36,11 +36,11 @@ pub status-bits-spec : {M : Type 1} → statement M
 status-bits-spec =
     tie.close
     (tie.spec
-    one-requires
-    one-requires-2
+    one-if-requires
+    one-if-requires-2
     mul-u32-of-u8
     add-u32-of-u8
-    one-requires-3
+    one-if-requires-3
     mul-u32-of-u8-2
     add-u32-of-u8-2
     u32-of-u8-requires

@@ -1,9 +1,7 @@
 -- `execute::requests::finished` meets its contract.
 use borrow.Author.Needs.{needs}
 use mathlib.Core.Path.{ap, sym, _∙_}
-use Rattle.records.specs.declared.Reply.{Reply}
-use Rattle.records.specs.State.{Seat, seat}
-use Rattle.records.specs.Answer.{Ran}
+use Rattle.records.specs.State.{seat}
 use Rattle.execute.proofs.Resting.{told, ready-answered}
 use Rattle.execute.proofs.requests.finished.Statement.{statement}
 use Rattle.execute.proofs.requests.finished.Tie as tie

@@ -1,15 +1,11 @@
 -- `execute::requests::run_hardware` meets its contract.
 use borrow.Author.Needs.{needs}
-use mathlib.Core.Path.{_≡_, ap, sym, _∙_}
-use mathlib.Core.Bool.{false}
-use mathlib.Core.List.{List}
+use mathlib.Core.Path.{ap, sym, _∙_}
 use Prim.Native.Nat.{ℕ}
 use lib.ListN.{set}
 use borrow.Author.Tests.{lt-ltb, le-ltb}
 use Rattle.readiness.specs.Status.{isReady}
-use Rattle.records.specs.declared.Reply.{Reply}
 use Rattle.records.specs.State.{Seat, seat, wordPlace}
-use Rattle.records.specs.Answer.{Ran}
 use Rattle.records.specs.Requests.{hardwareEffect}
 use Rattle.records.specs.inner.Parts.{slotEffect, slotAnswered, slotRun}
 use Rattle.bits.proofs.Choices.{unless-true, unless-false, when-true, when-false}

@@ -1,17 +1,14 @@
 -- `execute::requests::run_read` meets its contract.
 use native.Mathlib.Omega.{arith}
 use borrow.Author.Needs.{needs}
-use mathlib.Core.Path.{_≡_, ap, sym, _∙_}
+use mathlib.Core.Path.{ap, sym, _∙_}
 use mathlib.Core.Bool.{true}
 use Prim.Native.Nat.{ℕ, _<_}
 use Rattle.frs_queue.specs.Queue.{noTally}
-use Rattle.readiness.specs.declared.Status.{Status}
 use Rattle.readiness.specs.Status.{isReady}
-use Rattle.records.specs.declared.Completion.{Completion}
 use Rattle.records.specs.declared.Completion.the-variants as completion
-use Rattle.records.specs.declared.Reply.{Reply}
-use Rattle.records.specs.State.{Seat, seat}
-use Rattle.records.specs.Answer.{Ran, reply}
+use Rattle.records.specs.State.{seat}
+use Rattle.records.specs.Answer.{reply}
 use Rattle.records.specs.Route.{routeCompletion, refusedData, isAccess}
 use Rattle.records.specs.Requests.{readEffect}
 use Rattle.records.specs.inner.Parts.{slotEffect, slotAnswered, slotRun}

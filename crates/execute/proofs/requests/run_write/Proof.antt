@@ -5,9 +5,8 @@ use mathlib.Core.Path.{ap, sym, _∙_}
 use Prim.Native.Nat.{_<_}
 use Rattle.frs_queue.specs.Queue.{noTally}
 use Rattle.records.specs.declared.Completion.{Completion}
-use Rattle.records.specs.declared.Reply.{Reply}
 use Rattle.records.specs.State.{Seat, seat}
-use Rattle.records.specs.Answer.{Ran, does, reply}
+use Rattle.records.specs.Answer.{does, reply}
 use Rattle.records.specs.Route.{routeCompletion, isAccess}
 use Rattle.records.specs.Requests.{writeEffect}
 use Rattle.records.specs.inner.Parts.{slotEffect, slotAnswered, slotRun}

@@ -3,7 +3,7 @@ use borrow.Author.Needs.{needs}
 use mathlib.Core.Path.{ap}
 use mathlib.Core.List.{List}
 use Prim.Native.Nat.{ℕ}
-use Rattle.readiness.specs.Settle.{SlotScene}
+use Rattle.readiness.specs.inner.OneSlot.{SlotScene}
 use Rattle.records.specs.declared.Completion.the-variants as completion
 use Rattle.records.specs.State.{Seat, seat}
 use Rattle.records.specs.Answer.{Ran, reply}

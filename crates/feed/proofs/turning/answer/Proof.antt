@@ -6,14 +6,14 @@ use Rattle.feed.proofs.turning.answer.Tie as tie
 answer-bytes-requires : tie.Need-answer-bytes-requires
 answer-bytes-requires c κs = search needs
 
-put-requires : tie.Need-put-requires
-put-requires c κs = search needs
+put-answer-requires : tie.Need-put-answer-requires
+put-answer-requires c κs = search needs
 
 same-length : tie.Need-same-length
 same-length c = search needs
 
 returns : tie.Need-returns
-returns c = rw (← c .before .before .before .answer-bytes .ensures) (c .before .before .put .ensures)
+returns c = rw (← c .before .before .before .answer-bytes .ensures) (c .before .before .put-answer .ensures)
 
 pub answer-spec : {M : Type 1} → statement M
-answer-spec = tie.close (tie.spec answer-bytes-requires put-requires same-length returns)
+answer-spec = tie.close (tie.spec answer-bytes-requires put-answer-requires same-length returns)

@@ -5,7 +5,7 @@ use denote.Ref.{now}
 use Rattle.readiness.specs.inner.Phases.{statusesIn}
 use Rattle.readiness.proofs.Bounds.{bound-earliest}
 use Rattle.readiness.proofs.PhaseNumbers.{statuses-same}
-use Rattle.feed.proofs.Running.{card-runs}
+use Rattle.feed.proofs.Parts.{card-runs}
 use Rattle.feed.proofs.Direct.{turned-of}
 use Rattle.feed.proofs.turning.card_turn.Statement.{statement}
 use Rattle.feed.proofs.turning.card_turn.Tie as tie

@@ -5,7 +5,7 @@ use borrow.Author.Needs.{needs}
 use denote.Ref.{now}
 use Rattle.records.specs.PortRecords.{front}
 use Rattle.records.specs.inner.Parts.{portRun}
-use Rattle.feed.proofs.Running.{port-runs}
+use Rattle.feed.proofs.Parts.{port-runs}
 use Rattle.feed.proofs.Direct.{turned-of}
 use Rattle.feed.proofs.turning.port_turn.Statement.{statement}
 use Rattle.feed.proofs.turning.port_turn.Tie as tie

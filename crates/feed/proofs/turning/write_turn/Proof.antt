@@ -4,7 +4,7 @@ use borrow.Author.Needs.{needs}
 use denote.Ref.{now}
 use Rattle.readiness.specs.inner.Phases.{statusesIn}
 use Rattle.records.specs.declared.Record.the-variants as variants
-use Rattle.feed.proofs.Running.{slot-runs}
+use Rattle.feed.proofs.Parts.{slot-runs}
 use Rattle.feed.proofs.Direct.{turned-of, at-slot, as-told}
 use Rattle.feed.proofs.turning.write_turn.Statement.{statement}
 use Rattle.feed.proofs.turning.write_turn.Tie as tie

@@ -7,19 +7,20 @@ use lib.ListN.{length}
 use denote.Ref.{now}
 use borrow.Author.Tests.{not-true, not-false}
 use borrow.Author.Needs.{needs}
-use Rattle.readiness.specs.inner.Phases.{statusesIn}
 use Rattle.readiness.proofs.PhaseNumbers.{statuses-length}
 use Rattle.records.specs.Sound.{sound}
-use Rattle.demand3.specs.Held.{Held, held, stateOf}
+use Rattle.demand3.specs.Held.{Held, stateOf}
 use Rattle.demand3.specs.Refusals.{setUpRefusal, soundCarried}
-use Rattle.demand3.proofs.Refusals.{refusal-held, Fits, fits-of, set-up-fits}
+use Rattle.demand3.specs.GivenForNo.{Fits}
+use Rattle.demand3.proofs.Refusals.{refusal-held, fits-of, set-up-fits}
+use Rattle.set_up.specs.Lent.{heldIn}
 use Rattle.set_up.proofs.Stopping.{stops-set-up, stops-carried, stops-state, stops-31, stops-none}
 use Rattle.set_up.proofs.refusing.refusal.Statement.{statement}
 use Rattle.set_up.proofs.refusing.refusal.Tie as tie
 
 -- what is lent, with the live registers `words`
 abbrev lent : tie.Start → List ℕ → Held
-lent c words = held (c .args .port) (statusesIn (now (c .args .phases))) words (now (c .args .cells))
+lent c words = heldIn (c .args .port) (now (c .args .phases)) words (now (c .args .cells))
 
 -- what the tests found
 number-is : (c : tie.After-set-up-refusal) (words : List ℕ) → let s = c .before .before .before .before in length words ≡ s .args .live

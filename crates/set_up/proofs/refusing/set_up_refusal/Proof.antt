@@ -6,7 +6,8 @@ use denote.Ref.{now}
 use borrow.Author.Tests.{not-true, not-false}
 use borrow.Author.Needs.{needs}
 use Rattle.demand3.specs.Refusals.{lengthsFit, queueFits, allCodesAllowed}
-use Rattle.demand3.proofs.Refusals.{Fits, fits-of, refused-1, refused-2, refused-3, refused-4, refused-not}
+use Rattle.demand3.specs.GivenForNo.{Fits}
+use Rattle.demand3.proofs.Refusals.{fits-of, refused-1, refused-2, refused-3, refused-4, refused-not}
 use Rattle.set_up.proofs.refusing.set_up_refusal.Statement.{statement}
 use Rattle.set_up.proofs.refusing.set_up_refusal.Tie as tie
 

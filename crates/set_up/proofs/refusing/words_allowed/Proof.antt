@@ -1,7 +1,7 @@
 -- `set_up::refusing::words_allowed` meets its contract.
 use native.Mathlib.Omega.{arith}
-use mathlib.Core.Path.{_≡_, refl, sym, _∙_}
-use mathlib.Core.Bool.{Bool, true, false, _&&_, and-true}
+use mathlib.Core.Path.{sym, _∙_}
+use mathlib.Core.Bool.{and-true}
 use borrow.Author.Tests.{not-true, not-false}
 use borrow.Author.Needs.{needs}
 use Rattle.demand3.proofs.Refusals.{words-checked}

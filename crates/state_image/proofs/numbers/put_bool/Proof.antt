@@ -16,7 +16,7 @@ same-length : tie.Need-same-length
 same-length c = search needs
 
 returns : tie.Need-returns
-returns c = let b = c .before .before .before .before in c .before .before .put .ensures ∙ ap (λ (v : ℕ). set (b .before .before .args .bytes .now) (b .before .before .args .at) v) (c .before .before .before .one-if .ensures)
+returns c = let b = c .before .before .before .before in c .before .before .put .ensures ∙ ap (λ (v : ℕ). set (b .before .before .args .bytes .now) (b .before .before .args .at) v) (c .before .before .before .one-if .ensures .0)
 
 pub put-bool-spec : {M : Type 1} → statement M
 put-bool-spec = tie.close (tie.spec one-if-requires put-requires same-length returns)

@@ -4,13 +4,14 @@ use mathlib.Core.Path.{_≡_, refl, ap, _∙_}
 use native.Mathlib.Omega.{arith}
 use lib.ListN.{replicate, set}
 use borrow.Author.Needs.{needs}
-use Rattle.state_layout.specs.Reading.{byteAt, bytesFrom}
+use Rattle.bits.specs.Bytes.{byteAt}
+use Rattle.state_layout.specs.Reading.{bytesFrom}
 use Rattle.bits.proofs.Lists.{done, done-none, done-more, done-all}
 use Rattle.state_image.proofs.state.carried_in.Statement.{statement}
 use Rattle.state_image.proofs.state.carried_in.Tie as tie
 
 abbrev Inv-loop : tie.InvT-loop
-Inv-loop bytes carried₀ i₀ carried i = (i ≤ 16) × (carried ≡ done i (λ k. byteAt (29 + k) bytes) (replicate 16 0))
+Inv-loop bytes carried₀ i₀ carried i = (i ≤ 16) × (carried ≡ done i (λ k. byteAt bytes (29 + k)) (replicate 16 0))
 
 abbrev μ-loop : tie.MeasureT-loop
 μ-loop bytes carried₀ i₀ carried i = 16 - i
@@ -37,7 +38,7 @@ loop-again : tie.Need-loop-again Inv-loop μ-loop
 loop-again c = let l = c .before .before in
     let a = l .before .before .args in
     let i = l .loop .i in
-    let f : ℕ → ℕ = λ k. byteAt (29 + k) (a .bytes .now) in (
+    let f : ℕ → ℕ = λ k. byteAt (a .bytes .now) (29 + k) in (
       omega arith,
       (λ t. set (l .loop .inv .1 t) i (c .byte-at .ensures t)) ∙ done-more i f (replicate 16 0) (c .before .loop-test .taken),
     )
@@ -46,7 +47,7 @@ returns : tie.Need-returns Inv-loop μ-loop
 unfolding bytesFrom
 returns c = let l = c .before in
     let a = l .before .before .args in
-    let f : ℕ → ℕ = λ k. byteAt (29 + k) (a .bytes .now) in
+    let f : ℕ → ℕ = λ k. byteAt (a .bytes .now) (29 + k) in
     let e : l .loop .i ≡ 16 = omega arith in
     l .loop .inv .1 ∙ ap (λ (k : ℕ). done k f (replicate 16 0)) e ∙ done-all 16 f (replicate 16 0) refl
 

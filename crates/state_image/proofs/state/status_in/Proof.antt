@@ -3,7 +3,8 @@ use Prim.Native.Nat.{_+_}
 use mathlib.Core.Path.{_≡_, sym, _∙_}
 use borrow.Author.Needs.{needs}
 use Rattle.state_layout.proofs.Steps.{status-at}
-use Rattle.state_layout.specs.Reading.{byteAt, timeAt, causeIn, phaseIn}
+use Rattle.bits.specs.Bytes.{byteAt}
+use Rattle.state_layout.specs.Reading.{timeAt, causeIn, phaseIn}
 use Rattle.state_image.proofs.state.status_in.Statement.{statement}
 use Rattle.state_image.proofs.state.status_in.Tie as tie
 
@@ -46,8 +47,8 @@ returns c = let a = c .before .before .before .before .before .before .before .b
     let l = a .bytes .now in
     let ready : c .before .before .before .before .before .before .nanos-of .result ≡ timeAt (at + 2) l = c .before .before .before .before .before .before .nanos-of .ensures ∙ (λ t. record { 0 = c .before .before .before .before .before .before .before .eight-at .ensures t }) in
     let end : c .before .before .before .before .nanos-of2 .result ≡ timeAt (at + 10) l = c .before .before .before .before .nanos-of2 .ensures ∙ (λ t. record { 0 = c .before .before .before .before .before .eight-at2 .ensures t }) in
-    let cause : c .before .before .cause-of .result ≡ causeIn (byteAt (at + 1) l) (timeAt (at + 10) l) = c .before .before .cause-of .ensures ∙ (λ t. causeIn (c .before .before .before .byte-at .ensures t) (end t)) in
-    let phase : c .phase-of .result ≡ phaseIn (byteAt at l) (causeIn (byteAt (at + 1) l) (timeAt (at + 10) l)) (timeAt (at + 2) l) = c .phase-of .ensures ∙ (λ t. phaseIn (c .before .byte-at2 .ensures t) (cause t) (ready t)) in
+    let cause : c .before .before .cause-of .result ≡ causeIn (byteAt l (at + 1)) (timeAt (at + 10) l) = c .before .before .cause-of .ensures ∙ (λ t. causeIn (c .before .before .before .byte-at .ensures t) (end t)) in
+    let phase : c .phase-of .result ≡ phaseIn (byteAt l at) (causeIn (byteAt l (at + 1)) (timeAt (at + 10) l)) (timeAt (at + 2) l) = c .phase-of .ensures ∙ (λ t. phaseIn (c .before .byte-at2 .ensures t) (cause t) (ready t)) in
     (λ t. record { phase = phase t }) ∙ sym (status-at at l)
 
 pub status-in-spec : {M : Type 1} → statement M

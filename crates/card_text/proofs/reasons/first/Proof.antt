@@ -1,0 +1,20 @@
+-- `card_text::reasons::first` meets its contract.
+use mathlib.Core.Path.{sym, _∙_}
+use Rattle.card_grammar.specs.Grammar.{firstOf}
+use borrow.Author.Needs.{needs}
+use Rattle.card_text.proofs.reasons.first.Statement.{statement}
+use Rattle.card_text.proofs.reasons.first.Tie as tie
+
+fine-requires : tie.Need-fine-requires
+fine-requires c κs = search needs
+
+returns : tie.Need-returns
+unfolding firstOf
+returns c = simp (sym (c .before .fine .ensures) ∙ c .if1 .taken)
+
+returns-2 : tie.Need-returns-2
+unfolding firstOf
+returns-2 c = simp (sym (c .before .fine .ensures) ∙ c .if1 .left)
+
+pub first-spec : {M : Type 1} → statement M
+first-spec = tie.close (tie.spec fine-requires returns returns-2)

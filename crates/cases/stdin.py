@@ -7,7 +7,7 @@
 
 The cases: the first four of 00-base, whose output is the front of what 00-base wants; then those that are written here: marked
 cases 1 to 10 of 01; every status for every kind that can give it; refusals 1 to 5, each clause of 5 alone; 30 and 31; FRS in order
-of ready time, dropped, and with interrupts; messages written and read. `stdout` is what the independent implementation writes.
+of ready time, dropped, and with interrupts; messages written and read; time sheets. `stdout` is what the independent implementation writes.
 """
 import struct
 import sys
@@ -45,6 +45,7 @@ class Case:
         for word, value in defaults:
             self.defaults[word] = value
         self.entries = list(entries) + [entry()] * (32 - len(entries))
+        self.left = list(self.entries)
         self.operations = []
         cases.append(self)
 
@@ -82,6 +83,15 @@ class Case:
         body = struct.pack('<BBHBB', 13, kind, number, reason, room)
         want = b'\0' + want if isinstance(want, bytes) else bytes([want]) + b'\xEE' * room
         self.operations.append((body, 'message', want))
+        return self
+
+    def sheet(self, text, codes=None, number=0, line=0):
+        """`codes`: for each slot that the sheet names the four codes that it gets."""
+        for slot, four in (codes or {}).items():
+            self.left[slot] = struct.pack('<HHHH', *four) + self.left[slot][8:]
+        text = text.encode('latin-1')
+        want = struct.pack('<BH', number, line) + b''.join(e[:8] for e in self.left)
+        self.operations.append((struct.pack('<BH', 4, len(text)) + text, 'message', want))
         return self
 
     def reads(self, message, kind=0, number=0, reason=0, status=0):
@@ -319,6 +329,37 @@ for at, byte in ((0, 0x35), (1, 0x10), (1, 0x40), (7, 0x7E), (10, 1), (11, 0), (
     read_alone.reads(changed(at, byte), status=19)
 Case().set_up().writes(0x30, 0x0100, 3, layout(0x30, 9, 0x0100, 3)).feed([UP, read(0)[:3]], [0]).reads(DRS[1:], 0x34, 0x0100).feed(
     [b'\x0F', advance(10)], [17, 0])
+
+
+# ---- Time sheets; what a sheet leaves is the set-up from there on
+
+sheets = Case(slots=3)
+# The edges of every scale, each unit, zeros in front, another order of slots, slots that are not named.
+sheets.sheet('').sheet('0 0 511 512 16352 ns\n', {0: (0, 0x1FF, 0x210, 0x3FF)}).sheet(
+    '2 16353 523264 523265 16744448 ns\n1 16744449 535822336 535822337 1006632960 ns\n',
+    {2: (0x410, 0x5FF, 0x610, 0x7FF), 1: (0x810, 0x9FF, 0xA10, 0xA1E)}).sheet(
+        '0000000000 0 1 512 1006632 us\n', {0: (0, 0x220, 0x5F4, 0xA1E)}).sheet(
+            '1 0 1 300 1006 ms\n', {1: (0, 0x61F, 0x91F, 0xA1E)})
+# Each number; the earliest bad line; the first number of a line; nothing changes.
+for text, number, line in (
+        ('\n', 40, 1), ('0 1 1 1 1 ns', 40, 1), ('0 1 1 1 1 ns\r\n', 40, 1), ('0 1 1 1 1 NS\n', 40, 1), ('0 1 1 1 1 s\n', 40, 1),
+        ('0  1 1 1 1 ns\n', 40, 1), (' 0 1 1 1 1 ns\n', 40, 1), ('0 1 1 1 1 ns \n', 40, 1), ('0 1 1 1 ns\n', 40, 1),
+        ('0 1 1 1 1 1 ns\n', 40, 1), ('0 1 1 -1 1 ns\n', 40, 1), ('0 1 1 1 00000000001 ns\n', 40, 1), ('00000000000 1 1 1 1 ns\n', 40, 1),
+        ('0\t1 1 1 1 ns\n', 40, 1), ('# 0 1 1 1 1 ns\n', 40, 1), ('0 1 1 1 1 ns\n\n', 40, 2), ('\0', 40, 1), ('\xFF\n', 40, 1),
+        ('3 1 1 1 1 ns\n', 41, 1), ('32 1 1 1 1 ns\n', 41, 1), ('4294967296 1 1 1 1 ns\n', 41, 1), ('9999999999 1 1 1 1 ns\n', 41, 1),
+        ('0 1 1 1 1 ns\n0 1 1 1 1 ns\n', 42, 2), ('0 1 1 1 1 ns\n1 1 1 1 1 ns\n00 1 1 1 1 ns\n', 42, 3),
+        ('0 1006632961 1 1 1 ns\n', 43, 1), ('0 1 1006633 1 1 us\n', 43, 1), ('0 1 1 1007 1 ms\n', 43, 1), ('0 1 1 1 9999999999 ms\n', 43, 1),
+        ('3 1 1 1 1007 ms \n', 40, 1), ('3 1 1 1 1007 ms\n', 41, 1), ('1 1 1 1 1 ns\n1 1 1 1 1007 ms\n', 42, 2),
+        ('1 1 1 1 1 ns\n2 1 1 1 1007 ms\n3\n', 43, 2)):
+    sheets.sheet(text, number=number, line=line)
+# A sheet mends a 3, and the times that it leaves are those of the bench.
+Case(entries=[entry(reset=0xA1F, dl_up=0xFFFF)]).set_up(3).sheet('0 1 10 5 0 ns\n', {0: (1, 10, 5, 0)}).set_up(0).feed(
+    [UP, advance(9), read(0), advance(1), read(0)], [0, 0, 17, 0, done(0x56781234)])
+Case().set_up().sheet('0 0 1 0 0 us\n', {0: (0, 0x220, 0, 0)}).feed([UP, advance(1023), read(0), advance(1), read(0)], [0, 0, 17, 0, 0])
+# Without slots no slot is there; with more than 32, those below 32 are.
+Case(slots=0).sheet('0 1 1 1 1 ns\n', number=41, line=1)
+Case(slots=33, statuses=32, live=2112, default_words=2112).sheet('32 1 1 1 1 ns\n', number=41, line=1).sheet(
+    '31 1 1 1 1 ns\n', {31: (1, 1, 1, 1)})
 
 
 # ---- An output is held to what is expected

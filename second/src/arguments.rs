@@ -7,7 +7,7 @@ pub struct Arguments {
 }
 
 /// Options without a value.
-const SWITCHES: [&str; 4] = ["--table", "--masks", "--compare", "--lengths"];
+const SWITCHES: [&str; 5] = ["--table", "--masks", "--compare", "--lengths", "--sheets"];
 
 impl Arguments {
     pub fn read(given: impl Iterator<Item = String>) -> Result<Arguments, String> {

@@ -1,17 +1,23 @@
 //! The bench: a set-up, the state lent with it, and the fault planted in it (none in the sound one).
 
+use std::borrow::Cow;
+
 use crate::faults::Fault;
 use crate::registers::{Table, TABLE};
 use crate::setup::Setup;
+use crate::sheets::{Sheet, Taken};
 use crate::state::{Port, State, Status};
 use crate::times::LAST_MOMENT;
 
 #[derive(Clone, Debug)]
 pub struct Bench<'a> {
-    pub setup: &'a Setup,
+    /// The one lent, until a sheet changes its codes.
+    pub setup: Cow<'a, Setup>,
     pub state: State,
     pub table: &'a Table,
     pub fault: Fault,
+    /// Bits of slots that earlier sheets named; a planted fault alone fills it.
+    pub named_earlier: u32,
 }
 
 /// What a record answers.
@@ -49,7 +55,8 @@ impl Answer {
 
 impl<'a> Bench<'a> {
     pub fn new(setup: &'a Setup, fault: Fault) -> Bench<'a> {
-        Bench { setup, state: State::zero(setup), table: &TABLE, fault }
+        let state = State::zero(setup);
+        Bench { setup: Cow::Borrowed(setup), state, table: &TABLE, fault, named_earlier: 0 }
     }
 
     pub fn has(&self, fault: Fault) -> bool {
@@ -71,6 +78,24 @@ impl<'a> Bench<'a> {
             self.state.cells.fill(0);
         }
         0
+    }
+
+    /// Takes a sheet: the entries that it leaves are those of the set-up from here on.
+    pub fn take_sheet(&mut self, text: &[u8]) -> Taken {
+        let Bench { fault, named_earlier, .. } = *self;
+        let sheet = Sheet { text, slots: self.setup.slots, fault, named_earlier };
+        let mut taken = sheet.take(&self.setup.entries);
+        self.named_earlier |= sheet.names_kept(&taken);
+        if self.has(Fault::SheetNeedsSetUp) && self.setup.refusal(self.fault).is_some() {
+            taken.entries = self.setup.entries;
+        }
+        if taken.entries != self.setup.entries && !self.has(Fault::SheetForgotten) {
+            self.setup.to_mut().entries = taken.entries;
+        }
+        if self.has(Fault::SheetSetsUp) {
+            self.set_up();
+        }
+        taken
     }
 
     /// Moves the clock, moment by moment; status 22 if it would pass 10^15.

@@ -6,7 +6,7 @@ use std::time::{Duration, Instant};
 use crate::bench::Bench;
 use crate::coverage::{report, Coverage};
 use crate::faults::Fault;
-use crate::generate;
+use crate::generate::Of;
 use crate::names;
 use crate::program::{Outcome, Program};
 use crate::run::{run_case, run_operation};
@@ -26,6 +26,7 @@ const MORE: usize = 4096;
 fn expected(case: &Case, coverage: &mut Coverage) -> Vec<u8> {
     let mut out = Vec::new();
     let mut bench = Bench::new(&case.setup, Fault::None);
+    coverage.begin_case();
     for operation in &case.operations {
         let gave = run_operation(&mut bench, operation, &mut out);
         coverage.note(&gave, &bench);
@@ -120,13 +121,13 @@ fn tell(program: &Program, seed: u64, number: u64, case: &Case, difference: &Dif
 }
 
 /// Compares on generated cases; true if all agree and everything was reached.
-pub fn compare(program: &Program, seed: u64, cases: u64) -> io::Result<bool> {
+pub fn compare(program: &Program, of: Of, seed: u64, cases: u64) -> io::Result<bool> {
     let started = Instant::now();
     let mut coverage = Coverage::new();
     let mut first = 0;
     while first < cases {
         let last = (first + BATCH).min(cases);
-        let batch: Vec<Case> = (first..last).map(|number| generate::case(seed, number)).collect();
+        let batch: Vec<Case> = (first..last).map(|number| of.case(seed, number)).collect();
         let wanted: Vec<Vec<u8>> = batch.iter().map(|case| expected(case, &mut coverage)).collect();
         if let Some(difference) = run_batch(program, &batch, &wanted, LIMIT)? {
             let number = first + difference.index as u64;
@@ -138,7 +139,7 @@ pub fn compare(program: &Program, seed: u64, cases: u64) -> io::Result<bool> {
             eprintln!("{first} of {cases} cases agree, {:.1} s", started.elapsed().as_secs_f64());
         }
     }
-    let complete = report(&coverage);
+    let complete = report(&coverage, of);
     println!("{cases} cases of seed {seed} agree, {:.1} s", started.elapsed().as_secs_f64());
     Ok(complete)
 }

@@ -2,9 +2,11 @@
 
 use crate::bench::{Answer, Bench};
 use crate::feed::Fed;
+use crate::generate::Of;
 use crate::messages::{Kind, DRS, UNREADABLE, UNWRITABLE};
 use crate::run::{Gave, Reading, Wrote};
 use crate::setup::PARTS;
+use crate::sheets::reached::Reached;
 use crate::sound::{broken_clauses, CLAUSES};
 use crate::stream::MOST_MESSAGE;
 
@@ -47,6 +49,7 @@ pub struct Coverage {
     noisy_lends: u64,
     written: Messages<{ UNWRITABLE.len() }>,
     read: Messages<{ UNREADABLE.len() }>,
+    sheets: Reached,
 }
 
 /// Counters of messages written, or of messages read.
@@ -116,11 +119,18 @@ impl Coverage {
             noisy_lends: 0,
             written: Messages::new(),
             read: Messages::new(),
+            sheets: Reached::new(),
         }
+    }
+
+    /// A case begins.
+    pub fn begin_case(&mut self) {
+        self.sheets.begin_case();
     }
 
     /// Counts what an operation gave; the bench is as the operation left it.
     pub fn note(&mut self, gave: &Gave, bench: &Bench) {
+        self.sheets.note(gave);
         match gave {
             Gave::SetUp(number) => {
                 self.set_ups[usize::from(*number)] += 1;
@@ -130,6 +140,7 @@ impl Coverage {
             Gave::Lent { noise } => self.noisy_lends += u64::from(*noise),
             Gave::Wrote(wrote) => self.note_wrote(wrote),
             Gave::Reading(reading) => self.note_reading(reading),
+            Gave::Sheet(_) => {}
         }
     }
 
@@ -217,29 +228,37 @@ impl Coverage {
         rows.push(("lend with bytes that are ignored".to_string(), self.noisy_lends));
         self.written.rows("write a message", &UNWRITABLE, &mut rows);
         self.read.rows("read a message", &UNREADABLE, &mut rows);
+        self.sheets.rows(&mut rows);
         rows
     }
 
-    /// A markdown table of all counters.
-    pub fn table(&self) -> String {
+    fn rows_of(&self, of: Of) -> Vec<(String, u64)> {
+        match of {
+            Of::Everything => self.rows(),
+            Of::Sheets => self.sheets.rows_alone(),
+        }
+    }
+
+    /// A markdown table of the counters.
+    pub fn table(&self, of: Of) -> String {
         let mut table = String::from("| reached | times |\n|---|---|\n");
-        for (name, count) in self.rows() {
+        for (name, count) in self.rows_of(of) {
             table += &format!("| {name} | {count} |\n");
         }
         table
     }
 
     /// The counters that stayed 0.
-    pub fn missing(&self) -> Vec<String> {
-        let rows = self.rows().into_iter();
+    pub fn missing(&self, of: Of) -> Vec<String> {
+        let rows = self.rows_of(of).into_iter();
         rows.filter(|(_, count)| *count == 0).map(|(name, _)| name).collect()
     }
 }
 
-/// Prints the table; true if every counter was reached.
-pub fn report(coverage: &Coverage) -> bool {
-    print!("{}", coverage.table());
-    let missing = coverage.missing();
+/// Prints the table; true if every counter was reached, or every one that cases of sheets alone can reach.
+pub fn report(coverage: &Coverage, of: Of) -> bool {
+    print!("{}", coverage.table(of));
+    let missing = coverage.missing(of);
     for name in &missing {
         println!("never reached: {name}");
     }

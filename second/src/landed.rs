@@ -94,20 +94,23 @@ impl Landed {
 pub const NO_PARENT: u8 = 0xFF;
 
 /// What has landed.
-pub const LANDED: Landed = Landed { ..Landed::NOTHING };
+pub const LANDED: Landed = Landed { sheets: true, ..Landed::NOTHING };
 
 #[cfg(test)]
 mod tests {
     use super::*;
 
     #[test]
-    fn the_base_has_five_operations() {
-        let operations: Vec<u8> = (0..=255).filter(|kind| LANDED.has_operation(*kind)).collect();
-        assert_eq!(operations, [0x01, 0x02, 0x03, 0x0D, 0x0E]);
+    fn the_base_has_five_operations_and_sheets_one_more() {
+        let operations = |landed: Landed| -> Vec<u8> {
+            (0..=255).filter(|kind| landed.has_operation(*kind)).collect()
+        };
+        assert_eq!(operations(Landed::NOTHING), [0x01, 0x02, 0x03, 0x0D, 0x0E]);
+        assert_eq!(operations(LANDED), [0x01, 0x02, 0x03, 0x04, 0x0D, 0x0E]);
     }
 
     #[test]
-    fn the_base_takes_defaults_alone() {
+    fn later_fields_take_their_defaults_alone() {
         let taken = |takes: &dyn Fn(u8) -> bool| (0..=255).filter(|byte| takes(*byte)).count();
         assert!(LANDED.takes_conventional(false) && !LANDED.takes_conventional(true));
         assert!(LANDED.takes_edition(1) && taken(&|byte| LANDED.takes_edition(byte)) == 1);

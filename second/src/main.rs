@@ -28,6 +28,8 @@ mod registers;
 mod run;
 mod selfcheck;
 mod setup;
+mod sheet_files;
+mod sheets;
 mod show;
 mod shrink;
 mod sound;
@@ -43,17 +45,19 @@ use std::process::ExitCode;
 
 use arguments::Arguments;
 use faults::{Fault, FAULTS};
+use generate::Of;
 use program::Program;
 
 const USAGE: &str = "usage:
   second run [--fault NAME] < stream > output
   second answers CARD TRACE [--fault NAME] > answers
-  second write --seed S --cases N > stream
-  second selfcheck [--seed S] [--cases N]
+  second write --seed S --cases N [--sheets] > stream
+  second selfcheck [--seed S] [--cases N] [--sheets]
   second faults [--seed S] [--cases N] [--table | --masks]
-  second compare PROGRAM [--seed S] [--cases N] [-- its own words]
+  second compare PROGRAM [--seed S] [--cases N] [--sheets] [-- its own words]
   second compare PROGRAM --stream FILE --expect FILE [-- its own words]
   second fuzz PROGRAM [--seed S] [--rounds N] [-- its own words]
+  second sheets OTSNEBURA [--seed S] [--cases N] [-- its own words]
   second bench [--only TRACE] [--records N] [--rounds N] | --compare [--records N] | --lengths
   second instructions [--only TRACE] [--records N]
   second memory [--records N]
@@ -101,7 +105,7 @@ fn write_command(arguments: &Arguments) -> Verdict {
     let mut output = BufWriter::with_capacity(1 << 20, std::io::stdout().lock());
     let mut bytes = vec![stream::VERSION];
     for number in 0..arguments.number("--cases", 1000)? {
-        stream::put_case(&generate::case(seed, number), &mut bytes);
+        stream::put_case(&of(arguments).case(seed, number), &mut bytes);
         output.write_all(&bytes).map_err(text)?;
         bytes.clear();
     }
@@ -109,9 +113,17 @@ fn write_command(arguments: &Arguments) -> Verdict {
     Ok(true)
 }
 
+/// What the cases of a command are made of.
+fn of(arguments: &Arguments) -> Of {
+    match arguments.has("--sheets") {
+        true => Of::Sheets,
+        false => Of::Everything,
+    }
+}
+
 fn selfcheck_command(arguments: &Arguments) -> Verdict {
     let (seed, cases) = (arguments.number("--seed", 1)?, arguments.number("--cases", 20_000)?);
-    Ok(selfcheck::selfcheck(seed, cases))
+    Ok(selfcheck::selfcheck(of(arguments), seed, cases))
 }
 
 fn faults_command(arguments: &Arguments) -> Verdict {
@@ -137,7 +149,8 @@ fn compare_command(arguments: &Arguments) -> Verdict {
         }
         _ => {
             let seed = arguments.number("--seed", 1)?;
-            compare::compare(&program, seed, arguments.number("--cases", 20_000)?)
+            let cases = arguments.number("--cases", 20_000)?;
+            compare::compare(&program, of(arguments), seed, cases)
         }
     };
     agrees.map_err(text)
@@ -147,6 +160,13 @@ fn fuzz_command(arguments: &Arguments) -> Verdict {
     let program = program_of(arguments)?;
     let (seed, rounds) = (arguments.number("--seed", 1)?, arguments.number("--rounds", 1000)?);
     fuzz::fuzz(&program, seed, rounds).map_err(text)
+}
+
+/// The command `otsnebura sheet` on generated card files and sheets.
+fn sheets_command(arguments: &Arguments) -> Verdict {
+    let program = program_of(arguments)?;
+    let (seed, cases) = (arguments.number("--seed", 1)?, arguments.number("--cases", 300)?);
+    sheet_files::compare(&program, seed, cases).map_err(text)
 }
 
 fn records_of(arguments: &Arguments, otherwise: u64) -> Result<usize, String> {
@@ -182,6 +202,7 @@ fn command() -> Verdict {
         "faults" => faults_command(&arguments),
         "compare" => compare_command(&arguments),
         "fuzz" => fuzz_command(&arguments),
+        "sheets" => sheets_command(&arguments),
         "bench" => bench_command(&arguments),
         "instructions" => instructions_command(&arguments),
         "memory" => speed::memory(records_of(&arguments, 250_000)?),

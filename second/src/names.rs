@@ -1,6 +1,6 @@
 //! Names for the bytes of an operation's output.
 
-use crate::stream::{image_length, Case, Operation, STATUS_BYTES};
+use crate::stream::{image_length, Case, Operation, STATUS_BYTES, TAKEN_BYTES};
 
 pub const PORT_FIELDS: [(&str, usize); 15] = [
     ("clock", 8),
@@ -38,6 +38,8 @@ const ANSWER_FIELDS: [&str; 8] = [
     "data byte 2",
     "data byte 3",
 ];
+
+const CODES: [&str; 4] = ["Reset", "DL Up", "FLR", "D3hot"];
 
 /// The field at an offset, or how far past the fields it lies.
 fn among(fields: &[(&'static str, usize)], offset: usize) -> Result<&'static str, usize> {
@@ -88,6 +90,17 @@ fn feed_field(case: &Case, room: usize, offset: usize) -> String {
     }
 }
 
+fn sheet_field(offset: usize) -> String {
+    match offset {
+        0 => "number".to_string(),
+        1 | 2 => "line".to_string(),
+        _ => {
+            let code = (offset - 3) / 2;
+            format!("{} code of entry {}", CODES[code % 4], code / 4)
+        }
+    }
+}
+
 /// How many bytes an operation's output has.
 pub fn output_length(case: &Case, operation: &Operation) -> usize {
     let image = image_length(&case.setup);
@@ -97,6 +110,7 @@ pub fn output_length(case: &Case, operation: &Operation) -> usize {
         Operation::Lend { .. } => 0,
         Operation::WriteMessage { room, .. } => 1 + usize::from(*room),
         Operation::ReadMessage(_) => READING_FIELDS.iter().map(|(_, length)| length).sum(),
+        Operation::Sheet(_) => TAKEN_BYTES,
     }
 }
 
@@ -118,6 +132,7 @@ pub fn name(case: &Case, offset: usize) -> String {
                 Operation::ReadMessage(_) => {
                     ("read", among(&READING_FIELDS, left).unwrap_or("?").to_string())
                 }
+                Operation::Sheet(_) => ("sheet", sheet_field(left)),
             };
             return format!("operation {index} ({what}), {field}");
         }

@@ -3,7 +3,7 @@
 use crate::bench::{Answer, Bench};
 use crate::coverage::Coverage;
 use crate::faults::Fault;
-use crate::generate::{self, records, setups, states};
+use crate::generate::{self, records, setups, states, Of};
 use crate::names;
 use crate::random::Random;
 use crate::run::{run_case, run_stream, Ended};
@@ -112,7 +112,7 @@ fn soundness_is_kept_and_refusals_change_nothing() {
         let case = generate::case(SEED, number);
         check_case(&case, &mut coverage, &mut out).unwrap();
     }
-    assert_eq!(coverage.missing(), Vec::<String>::new());
+    assert_eq!(coverage.missing(Of::Everything), Vec::<String>::new());
 }
 
 #[test]
@@ -203,4 +203,30 @@ fn names_tell_the_fields_apart() {
         let name = format!("operation 0 (set-up), status of slot 0: {field}");
         assert_eq!(names::name(&case, status + at), name);
     }
+}
+
+#[test]
+fn names_tell_the_fields_of_a_sheet() {
+    let case = Of::Sheets.case(SEED, 0);
+    let fields = [
+        (0, "number"),
+        (1, "line"),
+        (2, "line"),
+        (3, "Reset code of entry 0"),
+        (6, "DL Up code of entry 0"),
+        (3 + 8 * 31 + 7, "D3hot code of entry 31"),
+    ];
+    for (at, field) in fields {
+        assert_eq!(names::name(&case, at), format!("operation 0 (sheet), {field}"));
+    }
+    assert_eq!(names::name(&case, 259), "operation 1 (sheet), number");
+}
+
+#[test]
+fn cases_of_sheets_reach_all_that_they_can() {
+    let mut coverage = Coverage::new();
+    for number in 0..1500 {
+        check_case(&Of::Sheets.case(SEED, number), &mut coverage, &mut Vec::new()).unwrap();
+    }
+    assert_eq!(coverage.missing(Of::Sheets), Vec::<String>::new());
 }

@@ -7,8 +7,10 @@ use crate::faults::Fault;
 use crate::feed::Fed;
 use crate::messages::{self, Message, Unreadable, Unwritable};
 use crate::registers::Table;
+use crate::setup::{SlotEntry, MOST_SLOTS};
+use crate::sheets::Taken;
 use crate::state::State;
-use crate::stream::{put_image, put_image_with, Bad, Case, Operation, Source, Trouble};
+use crate::stream::{put_image, put_image_with, put_taken, Bad, Case, Operation, Source, Trouble};
 
 /// What every answer byte is before a feed, and every byte of a message's room before it is written.
 pub const UNTOUCHED: u8 = 0xEE;
@@ -32,6 +34,17 @@ pub struct Reading {
     pub refused: Vec<Unreadable>,
 }
 
+/// A sheet, the set-up that it found, and what came of it.
+pub struct Sheet {
+    pub text: Vec<u8>,
+    pub slots: u8,
+    pub before: [SlotEntry; MOST_SLOTS],
+    /// 1 to 4, or none.
+    pub refusal_before: Option<u8>,
+    pub refusal_after: Option<u8>,
+    pub taken: Taken,
+}
+
 /// What an operation gave, beside the bytes written for it.
 pub enum Gave {
     SetUp(u8),
@@ -39,6 +52,7 @@ pub enum Gave {
     Lent { noise: bool },
     Wrote(Wrote),
     Reading(Reading),
+    Sheet(Box<Sheet>),
 }
 
 /// Runs one operation and writes its output.
@@ -50,16 +64,7 @@ pub fn run_operation(bench: &mut Bench, operation: &Operation, out: &mut Vec<u8>
             put_state(&bench.state, bench.fault, out);
             Gave::SetUp(number)
         }
-        Operation::Feed { room, input } => {
-            let mut answers = vec![UNTOUCHED; usize::from(*room)];
-            let fed = bench.feed(input, &mut answers);
-            out.push(fed.number);
-            out.extend((fed.consumed as u32).to_le_bytes());
-            out.extend((fed.written as u32).to_le_bytes());
-            out.extend(&answers);
-            put_state(&bench.state, bench.fault, out);
-            Gave::Feed(fed)
-        }
+        Operation::Feed { room, input } => Gave::Feed(run_feed(bench, *room, input, out)),
         Operation::Lend { state, noise } => {
             bench.state = (**state).clone();
             Gave::Lent { noise: *noise != 0 }
@@ -80,7 +85,28 @@ pub fn run_operation(bench: &mut Bench, operation: &Operation, out: &mut Vec<u8>
             let refused = messages::unreadable(bytes);
             Gave::Reading(Reading { given, bytes: bytes.clone(), refused })
         }
+        Operation::Sheet(text) => Gave::Sheet(Box::new(run_sheet(bench, text, out))),
     }
+}
+
+fn run_feed(bench: &mut Bench, room: u16, input: &[u8], out: &mut Vec<u8>) -> Fed {
+    let mut answers = vec![UNTOUCHED; usize::from(room)];
+    let fed = bench.feed(input, &mut answers);
+    out.push(fed.number);
+    out.extend((fed.consumed as u32).to_le_bytes());
+    out.extend((fed.written as u32).to_le_bytes());
+    out.extend(&answers);
+    put_state(&bench.state, bench.fault, out);
+    fed
+}
+
+fn run_sheet(bench: &mut Bench, text: &[u8], out: &mut Vec<u8>) -> Sheet {
+    let (slots, before) = (bench.setup.slots, bench.setup.entries);
+    let refusal_before = bench.setup.refusal(bench.fault);
+    let taken = bench.take_sheet(text);
+    put_taken(&taken, out);
+    let refusal_after = bench.setup.refusal(bench.fault);
+    Sheet { text: text.to_vec(), slots, before, refusal_before, refusal_after, taken }
 }
 
 fn put_state(state: &State, fault: Fault, out: &mut Vec<u8>) {
@@ -222,8 +248,24 @@ mod tests {
     }
 
     #[test]
+    fn a_sheet_asks_for_no_set_up() {
+        let (ended, output) = run(&[&[4, 13, 0], &b"0 1 1 1 1 ns\n"[..], &[4, 0, 0, 0]].concat());
+        assert_eq!(ended, Ended::AtItsEnd);
+        let codes = [0; 256];
+        assert_eq!(output, [&[41, 1, 0], &codes[..], &[0, 0, 0], &codes].concat());
+    }
+
+    #[test]
+    fn a_sheet_of_4096_bytes_is_read_and_a_longer_one_is_bad() {
+        let (ended, output) = run(&[&[4, 0x00, 0x10], &[b'\n'; 4096][..], &[0]].concat());
+        assert_eq!((ended, &output[..3]), (Ended::AtItsEnd, &[40, 1, 0][..]));
+        let (ended, output) = run(&[&[4, 0x01, 0x10], &[b'\n'; 4097][..], &[0]].concat());
+        assert_eq!((ended, output), (Ended::BadCase(Bad::SheetLength), Vec::new()));
+    }
+
+    #[test]
     fn other_operations_are_bad_and_the_output_before_them_stands() {
-        for operation in (0x04..=0x0C).chain([0x0F, 0x10, 0xFF]) {
+        for operation in (0x05..=0x0C).chain([0x0F, 0x10, 0xFF]) {
             let (ended, output) = run(&[0x0E, 0, operation, 0, 0, 0]);
             let way = if operation > 0x0E { Bad::Operation } else { Bad::NotLanded };
             assert_eq!(ended, Ended::BadCase(way));

@@ -6,10 +6,12 @@ use crate::bench::Bench;
 use crate::coverage::{report, Coverage};
 use crate::fast::held;
 use crate::faults::Fault;
-use crate::generate;
+use crate::generate::Of;
 use crate::messages::{self, Message, MESSAGE_LENGTH};
 use crate::random::Random;
-use crate::run::{run_operation, Gave, Reading, Wrote, UNTOUCHED};
+use crate::run::{run_operation, Gave, Reading, Sheet, Wrote, UNTOUCHED};
+use crate::setup::SlotEntry;
+use crate::sheets::{self, Line};
 use crate::state::State;
 use crate::stream::{put_case, Case};
 
@@ -21,6 +23,7 @@ fn wrong(before: &State, bench: &Bench, gave: &Gave) -> Option<&'static str> {
         Gave::Lent { .. } => return None,
         Gave::Wrote(wrote) => return wrong_write(wrote),
         Gave::Reading(reading) => return wrong_reading(reading),
+        Gave::Sheet(sheet) => return wrong_sheet(sheet, *before != bench.state),
     };
     if (1..=5).contains(&number) {
         return (*before != bench.state).then_some("a refusal changed the state");
@@ -53,9 +56,43 @@ fn wrong_reading(reading: &Reading) -> Option<&'static str> {
     (written.is_err() || !told).then_some("a message read is not written back")
 }
 
+/// A sheet changes no state; a refused one no code; an accepted one gives the codes of the least times that cover.
+fn wrong_sheet(sheet: &Sheet, state_changed: bool) -> Option<&'static str> {
+    let Sheet { taken, before, .. } = sheet;
+    if state_changed {
+        return Some("a sheet changed the state");
+    }
+    if taken.number != 0 {
+        let refused = (40..=43).contains(&taken.number) && taken.line > 0;
+        return (!refused || taken.entries != *before).then_some("a refused sheet changed a code");
+    }
+    let slots = taken.entries.iter().zip(before).enumerate();
+    for (slot, (entry, before)) in slots {
+        let line = taken.good.iter().find(|line| line.slot == slot as u64);
+        match line {
+            Some(line) if !covers(line, entry) => return Some("a code is not the least"),
+            None if entry != before => return Some("a slot not named changed"),
+            _ => {}
+        }
+    }
+    (taken.line != 0).then_some("an accepted sheet names a line")
+}
+
+/// Each time is covered, and not by the time before it at the code's scale, nor could a lower scale hold it.
+fn covers(line: &Line, entry: &SlotEntry) -> bool {
+    line.times.iter().zip(entry.codes()).all(|(time, code)| {
+        let claim = sheets::nanoseconds(*time, line.unit).map_or(u64::MAX, |claim| claim.0);
+        let (value, step) = (u64::from(code.0) & 0x1FF, 32u64.pow(u32::from(code.0 >> 9)));
+        let least = value * step >= claim && (value == 0 || (value - 1) * step < claim);
+        let lowest = step == 1 || claim > 511 * (step / 32);
+        code.is_allowed() && least && lowest
+    })
+}
+
 /// Runs a case on the sound model and counts what it reaches.
 pub fn check_case(case: &Case, coverage: &mut Coverage, out: &mut Vec<u8>) -> Result<(), String> {
     let mut bench = Bench::new(&case.setup, Fault::None);
+    coverage.begin_case();
     for (index, operation) in case.operations.iter().enumerate() {
         let before = bench.state.clone();
         out.clear();
@@ -68,7 +105,7 @@ pub fn check_case(case: &Case, coverage: &mut Coverage, out: &mut Vec<u8>) -> Re
     Ok(())
 }
 
-/// Holds the fast model to the plain one on a case, as it is and damaged.
+/// Holds the fast model to the plain one on a case, as it is and damaged; it takes no sheets.
 fn hold(case: &Case, seed: u64, number: u64) -> Result<(), String> {
     held::hold(case)?;
     let damaged = held::damaged(case, &mut Random::for_case(!seed, number));
@@ -76,15 +113,16 @@ fn hold(case: &Case, seed: u64, number: u64) -> Result<(), String> {
 }
 
 /// Runs generated cases on the two models; true if nothing was wrong and all was reached.
-pub fn selfcheck(seed: u64, cases: u64) -> bool {
+pub fn selfcheck(of: Of, seed: u64, cases: u64) -> bool {
     let started = Instant::now();
     let mut coverage = Coverage::new();
     let (mut out, mut stream) = (Vec::new(), Vec::new());
     let mut stream_bytes = 0;
     for number in 0..cases {
-        let case = generate::case(seed, number);
+        let case = of.case(seed, number);
         let checked = check_case(&case, &mut coverage, &mut out);
-        if let Err(what) = checked.and_then(|()| hold(&case, seed, number)) {
+        let held = || if of == Of::Sheets { Ok(()) } else { hold(&case, seed, number) };
+        if let Err(what) = checked.and_then(|()| held()) {
             println!("seed {seed} case {number}: {what}");
             return false;
         }
@@ -95,7 +133,7 @@ pub fn selfcheck(seed: u64, cases: u64) -> bool {
             eprintln!("{} cases", number + 1);
         }
     }
-    let complete = report(&coverage);
+    let complete = report(&coverage, of);
     let seconds = started.elapsed().as_secs_f64();
     println!("{cases} cases of seed {seed}, {stream_bytes} stream bytes, {seconds:.1} s");
     complete

@@ -2,6 +2,7 @@
 
 use crate::records::record_length;
 use crate::setup::{Setup, SlotEntry};
+use crate::sheets::LINE_END;
 use crate::state::{Port, State, Status};
 use crate::stream::{put_case, Case, Operation, VERSION};
 
@@ -85,6 +86,15 @@ fn show_state(state: &State) -> String {
     text + &words("live words", &state.live) + &words("cells", &state.cells)
 }
 
+/// The lines of a sheet, with every byte that isn't printed written out.
+fn show_sheet(text: &[u8]) -> String {
+    let mut shown = format!("sheet, {} bytes\n", text.len());
+    for line in text.split_inclusive(|byte| *byte == LINE_END) {
+        shown += &format!("  \"{}\"\n", line.escape_ascii());
+    }
+    shown
+}
+
 fn show_operation(operation: &Operation) -> String {
     match operation {
         Operation::SetUp => "set-up\n".to_string(),
@@ -107,6 +117,7 @@ fn show_operation(operation: &Operation) -> String {
         Operation::ReadMessage(bytes) => {
             format!("read a message, {} bytes\n  {}\n", bytes.len(), hex(bytes))
         }
+        Operation::Sheet(text) => show_sheet(text),
     }
 }
 

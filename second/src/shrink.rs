@@ -2,6 +2,7 @@
 
 use crate::messages::FRS;
 use crate::setup::{SlotEntry, MOST_SLOTS, WORDS_PER_SLOT};
+use crate::sheets::LINE_END;
 use crate::show::split_records;
 use crate::state::{Cause, Port, State, Status};
 use crate::stream::{Case, Operation, MOST_BYTES};
@@ -133,6 +134,7 @@ fn simpler_operations(operation: &Operation) -> Vec<Operation> {
             simpler_writes(*kind, *id, *reason, *room)
         }
         Operation::ReadMessage(bytes) => simpler_readings(bytes),
+        Operation::Sheet(text) => simpler_sheets(text),
     }
 }
 
@@ -164,6 +166,27 @@ fn simpler_readings(bytes: &[u8]) -> Vec<Operation> {
         all.push(Operation::ReadMessage(next));
     }
     all
+}
+
+/// Fewer lines, fewer characters, and each digit 0 in turn.
+fn simpler_sheets(text: &[u8]) -> Vec<Operation> {
+    let lines: Vec<&[u8]> = text.split_inclusive(|byte| *byte == LINE_END).collect();
+    let mut texts = Vec::new();
+    let mut run = lines.len();
+    while run > 0 {
+        for from in (0..lines.len()).step_by(run) {
+            let to = (from + run).min(lines.len());
+            texts.push([&lines[..from], &lines[to..]].concat().concat());
+        }
+        run /= 2;
+    }
+    for place in 0..text.len() {
+        texts.push([&text[..place], &text[place + 1..]].concat());
+        if matches!(text[place], b'1'..=b'9') {
+            texts.push(changed(&text.to_vec(), |next| next[place] = b'0'));
+        }
+    }
+    texts.into_iter().map(Operation::Sheet).collect()
 }
 
 fn simpler_feeds(room: u16, input: &[u8]) -> Vec<Operation> {
@@ -238,8 +261,29 @@ fn simpler_states(state: &State) -> Vec<State> {
     all
 }
 
+/// The same case with nothing lent, and with fewer slots whatever is lent.
+fn lent_less(case: &Case) -> Vec<Case> {
+    let nothing = changed(case, |next| {
+        (next.setup.statuses, next.setup.live_words, next.setup.cells) = (0, 0, 0);
+        next.setup.defaults.clear();
+        for operation in &mut next.operations {
+            if let Operation::Lend { state, .. } = operation {
+                state.statuses.clear();
+                state.live.clear();
+                state.cells.clear();
+            }
+        }
+    });
+    let slots = case.setup.slots;
+    let fewer = [1, slots / 2, slots.saturating_sub(1)].into_iter();
+    let fewer = fewer.filter(|fewer| *fewer >= 1 && *fewer < slots);
+    let fewer = fewer.map(|fewer| changed(case, |next| next.setup.slots = fewer));
+    std::iter::once(nothing).chain(fewer).collect()
+}
+
 fn simpler_setups(case: &Case) -> Vec<Case> {
-    let mut all = vec![
+    let mut all = lent_less(case);
+    all.extend([
         changed(case, |next| next.setup.defaults.fill(0)),
         changed(case, |next| next.setup.entries = [SlotEntry::BLANK; MOST_SLOTS]),
         changed(case, |next| {
@@ -248,7 +292,7 @@ fn simpler_setups(case: &Case) -> Vec<Case> {
         }),
         changed(case, |next| next.setup.bus = 0),
         changed(case, |next| next.setup.port_id = 0),
-    ];
+    ]);
     for slot in 0..case.setup.slot_count().min(MOST_SLOTS) {
         let entry = case.setup.entries[slot];
         let simpler = [
@@ -286,6 +330,26 @@ mod tests {
         assert!(differs(&small));
         assert!(small.operations.len() <= 2);
         assert_eq!(small.setup.slots, 1);
+    }
+
+    #[test]
+    fn a_sheet_shrinks_to_a_line_or_two() {
+        for (fault, lines) in [
+            (Fault::SheetHighestCode, 1),
+            (Fault::SheetCrTaken, 1),
+            (Fault::SheetNamedInFirstLine, 3),
+            (Fault::SheetLimitBeforeNamed, 2),
+        ] {
+            let differs = |case: &Case| run_case(case, fault) != run_case(case, Fault::None);
+            let mut cases = (0..2000).map(|number| generate::case(2, number));
+            let found = cases.find(|case| differs(case));
+            let small = shrink(found.expect("the fault shows"), 3000, differs);
+            let [Operation::Sheet(text)] = &small.operations[..] else {
+                panic!("{} operations", small.operations.len());
+            };
+            assert_eq!(text.iter().filter(|byte| **byte == LINE_END).count(), lines);
+            assert_eq!((small.setup.statuses, small.setup.cells), (0, 0));
+        }
     }
 
     #[test]

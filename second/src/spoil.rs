@@ -62,6 +62,7 @@ fn operation_length(case: &Case, operation: &Operation) -> usize {
         Operation::Lend { .. } => image_length(&case.setup),
         Operation::WriteMessage { .. } => 5,
         Operation::ReadMessage(bytes) => 1 + bytes.len(),
+        Operation::Sheet(text) => 2 + text.len(),
     }
 }
 
@@ -164,6 +165,10 @@ impl Layout<'_> {
             Bad::MessageLength => {
                 let reads = |one: &Operation| matches!(one, Operation::ReadMessage(_));
                 Spot::byte(self.operation(random, reads)? + 1, above(random, MOST_MESSAGE as u8))
+            }
+            Bad::SheetLength => {
+                let is_sheet = |one: &Operation| matches!(one, Operation::Sheet(_));
+                Spot::u16(self.operation(random, is_sheet)? + 1, length_above(random, MOST_BYTES))
             }
             _ => self.image_spot(random, way),
         }

@@ -24,9 +24,9 @@ impl Code {
     }
 
     /// value * 32^scale nanoseconds.
-    pub fn time(self) -> Nanos {
-        let value = u64::from(self.0 & 0x1FF);
-        let scale = u32::from(self.0 >> 9);
+    pub const fn time(self) -> Nanos {
+        let value = (self.0 & 0x1FF) as u64;
+        let scale = (self.0 >> 9) as u32;
         Nanos(value * 32u64.pow(scale))
     }
 }

@@ -73,14 +73,14 @@ module _ (s t : List ℕ) where
   unfolding wantsEnd
   end-wanted k = ap (λ (x : Bool). cond x Fine LineTooLong) (none-same k)
 
-  number-line : (place : ℕ) (hex : Bool) (least most low high : ℕ) (sheet : List ℕ)
-      → enterNumber place hex least most low high more sheet ≡ enterNumber place hex least most low high s sheet
+  number-line : (place : ℕ) (hex : Bool) (least most low high : ℕ) (table : List ℕ)
+      → enterNumber place hex least most low high more table ≡ enterNumber place hex least most low high s table
   unfolding enterNumber whyNotNumber
-  number-line place hex least most low high sheet = rw (number-wanted hex least most 1, end-wanted 2, number-same hex least most 1)
+  number-line place hex least most low high table = rw (number-wanted hex least most 1, end-wanted 2, number-same hex least most 1)
 
-  word-line : (sheet : List ℕ) → enterWord more sheet ≡ enterWord s sheet
+  word-line : (table : List ℕ) → enterWord more table ≡ enterWord s table
   unfolding enterWord whyNotWord wordAllowed
-  word-line sheet =
+  word-line table =
       rw (number-wanted false 1 8 1, number-wanted true 1 8 2, number-wanted true 1 8 3, end-wanted 4, number-same false 1 8 1, number-same true 1 8 2, number-same true 1 8 3)
 
   yes-same : (k : ℕ) → isYes k more ≡ isYes k s
@@ -90,20 +90,20 @@ module _ (s t : List ℕ) where
   unfolding wantsCode
   code-wanted name k next = rw (word-wanted name k, number-wanted true 3 3 next)
 
-  slot-why : (sheet : List ℕ) → whyNotSlot more sheet ≡ whyNotSlot s sheet
+  slot-why : (table : List ℕ) → whyNotSlot more table ≡ whyNotSlot s table
   unfolding whyNotSlot whyNotCodes whyNotFrs wantsYesNo
-  slot-why sheet =
+  slot-why table =
       rw (number-wanted false 1 8 1, code-wanted nameReset 2 3, code-wanted nameDlUp 4 5, code-wanted nameFlr 6 7, code-wanted nameD3hot 8 9, word-wanted nameFrs 10, yes-same 11, word-wanted nameNo 11, end-wanted 12, number-same false 1 8 1)
 
-  slot-line : (sheet : List ℕ) → enterSlot more sheet ≡ enterSlot s sheet
+  slot-line : (table : List ℕ) → enterSlot more table ≡ enterSlot s table
   unfolding enterSlot putCode putFrs
-  slot-line sheet =
-      rw (slot-why sheet, number-same false 1 8 1, number-same true 3 3 3, number-same true 3 3 5, number-same true 3 3 7, number-same true 3 3 9, yes-same 11)
+  slot-line table =
+      rw (slot-why table, number-same false 1 8 1, number-same true 3 3 3, number-same true 3 3 5, number-same true 3 3 7, number-same true 3 3 9, yes-same 11)
 
   fact-same : (name : List ℕ) → isFact name more ≡ isFact name s
   fact-same name = ap (λ (f : List ℕ). same f name) (field-same 0)
 
-  pub comment-line : (sheet : List ℕ) → enterLine more sheet ≡ enterLine s sheet
+  pub comment-line : (table : List ℕ) → enterLine more table ≡ enterLine s table
   unfolding enterLine
-  comment-line sheet =
-      rw (none-same 0, fact-same nameSlots, fact-same nameQueue, fact-same nameBus, fact-same namePort, fact-same nameSlot, fact-same nameWord, number-line, number-line, number-line, number-line, slot-line sheet, word-line sheet)
+  comment-line table =
+      rw (none-same 0, fact-same nameSlots, fact-same nameQueue, fact-same nameBus, fact-same namePort, fact-same nameSlot, fact-same nameWord, number-line, number-line, number-line, number-line, slot-line table, word-line table)

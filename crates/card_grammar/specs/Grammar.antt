@@ -27,9 +27,9 @@ use Rattle.card_grammar.specs.Names.{nameSlots, nameQueue, nameBus, name
 use Rattle.card_grammar.specs.declared.Reason.{Reason}
 use Rattle.card_grammar.specs.declared.Reason.the-variants.{Fine, UnknownWord, BadNumber, LineTooShort, LineTooLong, OutOfRange, SlotsFirst, NamedTwice, Missing, NoRoom}
 
--- ---- the sheet
+-- ---- the table
 
--- A sheet has one number for each thing that a card can name, and `notNamed` where it hasn't been named: 64 default words for each
+-- A table has one number for each thing that a card can name, and `notNamed` where it hasn't been named: 64 default words for each
 -- of 32 slots, then slots, queue, bus and port, then Reset, DL Up, FLR, D3hot and FRS (1 yes, 0 no) for each slot.
 abbrev pub notNamed : ℕ
 notNamed = 4294967296
@@ -54,13 +54,13 @@ portPlace = 2051
 abbrev pub entryPlace : (n j : ℕ) → ℕ
 entryPlace n j = 2052 + n * 5 + j
 
--- how many a sheet has
+-- how many a table has
 abbrev pub places : ℕ
 places = 2212
 
 -- what stands at a place
 abbrev pub named : ℕ → List ℕ → ℕ
-named place sheet = getD sheet place 0
+named place table = getD table place 0
 
 -- ---- reasons
 
@@ -102,37 +102,37 @@ inRange low high n = cond (leb low n && leb n high) Fine OutOfRange
 
 -- nothing is named twice
 unfoldable pub notTwice : ℕ → List ℕ → Reason
-notTwice place sheet = cond (eqb (named place sheet) notNamed) Fine NamedTwice
+notTwice place table = cond (eqb (named place table) notNamed) Fine NamedTwice
 
 -- slots must be named before a slot is, and the slot must be one of them
 unfoldable pub slotAllowed : ℕ → List ℕ → Reason
-slotAllowed n sheet =
-    cond (eqb (named slotsPlace sheet) notNamed) SlotsFirst (cond (ltb n (named slotsPlace sheet)) Fine OutOfRange)
+slotAllowed n table =
+    cond (eqb (named slotsPlace table) notNamed) SlotsFirst (cond (ltb n (named slotsPlace table)) Fine OutOfRange)
 
 -- ---- facts
 
--- what a line leaves: why it is refused, and the sheet
+-- what a line leaves: why it is refused, and the table
 pub record Entered : Type 0 where
   pub reason : Reason
-  pub sheet : List ℕ
+  pub table : List ℕ
 
 abbrev pub entered : Reason → List ℕ → Entered
-entered reason sheet = record { reason = reason; sheet = sheet }
+entered reason table = record { reason = reason; table = table }
 
 -- a number is named at its place, unless the line is refused
 unfoldable pub put : Reason → (place n : ℕ) → List ℕ → List ℕ
-put why place n sheet = cond (isFine why) (set sheet place n) sheet
+put why place n table = cond (isFine why) (set table place n) table
 
 -- NAME NUMBER, for slots, queue, bus and port
-unfoldable pub whyNotNumber : (place : ℕ) (hex : Bool) (least most low high : ℕ) (line sheet : List ℕ) → Reason
-whyNotNumber place hex least most low high line sheet =
+unfoldable pub whyNotNumber : (place : ℕ) (hex : Bool) (least most low high : ℕ) (line table : List ℕ) → Reason
+whyNotNumber place hex least most low high line table =
     firstOf (wantsNumber hex least most 1 line)
-    (firstOf (wantsEnd 2 line) (firstOf (inRange low high (numberAt hex least most 1 line)) (notTwice place sheet)))
+    (firstOf (wantsEnd 2 line) (firstOf (inRange low high (numberAt hex least most 1 line)) (notTwice place table)))
 
-unfoldable pub enterNumber : (place : ℕ) (hex : Bool) (least most low high : ℕ) (line sheet : List ℕ) → Entered
-enterNumber place hex least most low high line sheet =
-    let why = whyNotNumber place hex least most low high line sheet in
-    entered why (put why place (numberAt hex least most 1 line) sheet)
+unfoldable pub enterNumber : (place : ℕ) (hex : Bool) (least most low high : ℕ) (line table : List ℕ) → Entered
+enterNumber place hex least most low high line table =
+    let why = whyNotNumber place hex least most low high line table in
+    entered why (put why place (numberAt hex least most 1 line) table)
 
 -- the number of a slot; a hex number of 1 to 8 digits; a code of three hex digits
 abbrev pub slotAt : List ℕ → ℕ
@@ -149,21 +149,21 @@ unfoldable pub offsetAllowed : ℕ → Reason
 offsetAllowed offset = cond (ltb offset 0x100 && eqb (offset % 4) 0) Fine OutOfRange
 
 -- word N OFFSET VALUE
-unfoldable pub wordAllowed : (line sheet : List ℕ) → Reason
-wordAllowed line sheet =
-    firstOf (slotAllowed (slotAt line) sheet)
-    (firstOf (offsetAllowed (hexAt 2 line)) (notTwice (defaultPlace (slotAt line) (hexAt 2 line)) sheet))
+unfoldable pub wordAllowed : (line table : List ℕ) → Reason
+wordAllowed line table =
+    firstOf (slotAllowed (slotAt line) table)
+    (firstOf (offsetAllowed (hexAt 2 line)) (notTwice (defaultPlace (slotAt line) (hexAt 2 line)) table))
 
-unfoldable pub whyNotWord : (line sheet : List ℕ) → Reason
-whyNotWord line sheet =
+unfoldable pub whyNotWord : (line table : List ℕ) → Reason
+whyNotWord line table =
     firstOf (wantsNumber false 1 8 1 line)
     (firstOf (wantsNumber true 1 8 2 line)
-    (firstOf (wantsNumber true 1 8 3 line) (firstOf (wantsEnd 4 line) (wordAllowed line sheet))))
+    (firstOf (wantsNumber true 1 8 3 line) (firstOf (wantsEnd 4 line) (wordAllowed line table))))
 
-unfoldable pub enterWord : (line sheet : List ℕ) → Entered
-enterWord line sheet =
-    let why = whyNotWord line sheet in
-    entered why (put why (defaultPlace (slotAt line) (hexAt 2 line)) (hexAt 3 line) sheet)
+unfoldable pub enterWord : (line table : List ℕ) → Entered
+enterWord line table =
+    let why = whyNotWord line table in
+    entered why (put why (defaultPlace (slotAt line) (hexAt 2 line)) (hexAt 3 line) table)
 
 -- yes or no
 abbrev pub isYes : ℕ → List ℕ → Bool
@@ -185,24 +185,24 @@ whyNotCodes line =
 unfoldable pub whyNotFrs : List ℕ → Reason
 whyNotFrs line = firstOf (wantsWord nameFrs 10 line) (firstOf (wantsYesNo 11 line) (wantsEnd 12 line))
 
-unfoldable pub whyNotSlot : (line sheet : List ℕ) → Reason
-whyNotSlot line sheet =
+unfoldable pub whyNotSlot : (line table : List ℕ) → Reason
+whyNotSlot line table =
     firstOf (wantsNumber false 1 8 1 line)
     (firstOf (whyNotCodes line)
-    (firstOf (whyNotFrs line) (firstOf (slotAllowed (slotAt line) sheet) (notTwice (entryPlace (slotAt line) 0) sheet))))
+    (firstOf (whyNotFrs line) (firstOf (slotAllowed (slotAt line) table) (notTwice (entryPlace (slotAt line) 0) table))))
 
 -- the code in field k is named as the slot's time j
-unfoldable pub putCode : Reason → (j k : ℕ) (line sheet : List ℕ) → List ℕ
-putCode why j k line sheet = put why (entryPlace (slotAt line) j) (codeAt k line) sheet
+unfoldable pub putCode : Reason → (j k : ℕ) (line table : List ℕ) → List ℕ
+putCode why j k line table = put why (entryPlace (slotAt line) j) (codeAt k line) table
 
-unfoldable pub putFrs : Reason → (line sheet : List ℕ) → List ℕ
-putFrs why line sheet = put why (entryPlace (slotAt line) 4) (one (isYes 11 line)) sheet
+unfoldable pub putFrs : Reason → (line table : List ℕ) → List ℕ
+putFrs why line table = put why (entryPlace (slotAt line) 4) (one (isYes 11 line)) table
 
-unfoldable pub enterSlot : (line sheet : List ℕ) → Entered
-enterSlot line sheet =
-    let why = whyNotSlot line sheet in
+unfoldable pub enterSlot : (line table : List ℕ) → Entered
+enterSlot line table =
+    let why = whyNotSlot line table in
     entered why
-    (putFrs why line (putCode why 3 9 line (putCode why 2 7 line (putCode why 1 5 line (putCode why 0 3 line sheet)))))
+    (putFrs why line (putCode why 3 9 line (putCode why 2 7 line (putCode why 1 5 line (putCode why 0 3 line table)))))
 
 -- ---- lines
 
@@ -211,28 +211,28 @@ abbrev pub isFact : List ℕ → List ℕ → Bool
 isFact name line = same (field 0 line) name
 
 -- a line: nothing but blanks and a comment, or a fact
-unfoldable pub enterLine : (line sheet : List ℕ) → Entered
-enterLine line sheet =
-    cond (noField 0 line) (entered Fine sheet)
-    (cond (isFact nameSlots line) (enterNumber slotsPlace false 1 8 1 32 line sheet)
-    (cond (isFact nameQueue line) (enterNumber queuePlace false 1 8 1 4095 line sheet)
-    (cond (isFact nameBus line) (enterNumber busPlace true 2 2 0 0xFF line sheet)
-    (cond (isFact namePort line) (enterNumber portPlace true 4 4 0 0xFFFF line sheet)
-    (cond (isFact nameSlot line) (enterSlot line sheet)
-    (cond (isFact nameWord line) (enterWord line sheet) (entered UnknownWord sheet)))))))
+unfoldable pub enterLine : (line table : List ℕ) → Entered
+enterLine line table =
+    cond (noField 0 line) (entered Fine table)
+    (cond (isFact nameSlots line) (enterNumber slotsPlace false 1 8 1 32 line table)
+    (cond (isFact nameQueue line) (enterNumber queuePlace false 1 8 1 4095 line table)
+    (cond (isFact nameBus line) (enterNumber busPlace true 2 2 0 0xFF line table)
+    (cond (isFact namePort line) (enterNumber portPlace true 4 4 0 0xFFFF line table)
+    (cond (isFact nameSlot line) (enterSlot line table)
+    (cond (isFact nameWord line) (enterWord line table) (entered UnknownWord table)))))))
 
--- what the lines leave: how many were read, the last of which is refused where there is a reason; the reason; the sheet
+-- what the lines leave: how many were read, the last of which is refused where there is a reason; the reason; the table
 pub record Told : Type 0 where
   pub line : ℕ
   pub reason : Reason
-  pub sheet : List ℕ
+  pub table : List ℕ
 
 abbrev pub told : ℕ → Reason → List ℕ → Told
-told line reason sheet = record { line = line; reason = reason; sheet = sheet }
+told line reason table = record { line = line; reason = reason; table = table }
 
 -- lines are read in turn, up to the first that is refused
 unfoldable pub readLines : ℕ → List (List ℕ) → List ℕ → Told
-readLines n [] sheet = told n Fine sheet
-readLines n (line ∷ lines) sheet =
-    let e = enterLine line sheet in
-    cond (isFine (e .reason)) (readLines (suc n) lines (e .sheet)) (told (suc n) (e .reason) (e .sheet))
+readLines n [] table = told n Fine table
+readLines n (line ∷ lines) table =
+    let e = enterLine line table in
+    cond (isFine (e .reason)) (readLines (suc n) lines (e .table)) (told (suc n) (e .reason) (e .table))

@@ -71,21 +71,21 @@ module _ (text : List ℕ) (at : ℕ) (h : at < length text) where
 
 -- ---- one line of several
 
-module _ (n : ℕ) (line : List ℕ) (lines : List (List ℕ)) (sheet : List ℕ) {why : Reason} {after : List ℕ} (e : entered why after ≡ enterLine line sheet) where
+module _ (n : ℕ) (line : List ℕ) (lines : List (List ℕ)) (table : List ℕ) {why : Reason} {after : List ℕ} (e : entered why after ≡ enterLine line table) where
   step : Entered → Told
-  step x = cond (isFine (x .reason)) (readLines (suc n) lines (x .sheet)) (told (suc n) (x .reason) (x .sheet))
+  step x = cond (isFine (x .reason)) (readLines (suc n) lines (x .table)) (told (suc n) (x .reason) (x .table))
 
-  read-step : readLines n (line ∷ lines) sheet ≡ cond (isFine why) (readLines (suc n) lines after) (told (suc n) why after)
+  read-step : readLines n (line ∷ lines) table ≡ cond (isFine why) (readLines (suc n) lines after) (told (suc n) why after)
   unfolding readLines step
   read-step = sym (ap step e)
 
-  pub read-fine : isFine why ≡ true → readLines n (line ∷ lines) sheet ≡ readLines (n + 1) lines after
+  pub read-fine : isFine why ≡ true → readLines n (line ∷ lines) table ≡ readLines (n + 1) lines after
   read-fine t = rw add-one (read-step ∙ ap (λ (x : Bool). cond x (readLines (suc n) lines after) (told (suc n) why after)) t)
 
-  pub read-refused : isFine why ≡ false → readLines n (line ∷ lines) sheet ≡ told (n + 1) why after
+  pub read-refused : isFine why ≡ false → readLines n (line ∷ lines) table ≡ told (n + 1) why after
   read-refused t = rw add-one (read-step ∙ ap (λ (x : Bool). cond x (readLines (suc n) lines after) (told (suc n) why after)) t)
 
 -- no line is left
-pub read-all : (n : ℕ) (text sheet : List ℕ) (at : ℕ) → length text ≤ at → readLines n (linesOf (drop at text)) sheet ≡ told n Fine sheet
+pub read-all : (n : ℕ) (text table : List ℕ) (at : ℕ) → length text ≤ at → readLines n (linesOf (drop at text)) table ≡ told n Fine table
 unfolding readLines linesOf
-read-all n text sheet at h = ap (λ (l : List ℕ). readLines n (linesOf l) sheet) (drop-of-length-le text h)
+read-all n text table at h = ap (λ (l : List ℕ). readLines n (linesOf l) table) (drop-of-length-le text h)

@@ -8,24 +8,24 @@ use Rattle.readiness.specs.declared.Setup.{Setup}
 use Rattle.card_grammar.specs.declared.Reason.{Reason}
 use Rattle.text_fields.specs.Text.{linesOf}
 use Rattle.card_grammar.specs.Grammar.{queuePlace, named, isFine, firstOf, Told, told, readLines}
-use Rattle.card_grammar.specs.Card.{blankSheet, setupFrom, missing, room, storedWords, outcome, outcomeFrom, cardOf}
+use Rattle.card_grammar.specs.Card.{blankTable, setupFrom, missing, room, storedWords, outcome, outcomeFrom, cardOf}
 
-module _ (text words : List ℕ) {sheet after : List ℕ} {line queue : ℕ} {refused lacking roomy inner why : Reason} {ok : Bool} {setup : Setup}
-    (read : told line refused sheet ≡ readLines 0 (linesOf text) blankSheet)
-    (lacks : lacking ≡ missing sheet)
+module _ (text words : List ℕ) {table after : List ℕ} {line queue : ℕ} {refused lacking roomy inner why : Reason} {ok : Bool} {setup : Setup}
+    (read : told line refused table ≡ readLines 0 (linesOf text) blankTable)
+    (lacks : lacking ≡ missing table)
     (rooms : roomy ≡ room (length words))
     (inners : inner ≡ firstOf lacking roomy)
     (whys : why ≡ firstOf refused inner)
-    (stores : after ≡ storedWords why sheet words)
+    (stores : after ≡ storedWords why table words)
     (oks : ok ≡ isFine why)
-    (setups : setup ≡ setupFrom sheet)
-    (queues : queue ≡ named queuePlace sheet) where
+    (setups : setup ≡ setupFrom table)
+    (queues : queue ≡ named queuePlace table) where
   pub reading : outcome (record { ok = ok; line = line; reason = why; setup = setup; queue = queue % 4096 }) after ≡ cardOf text words
   unfolding outcomeFrom cardOf
   reading =
-      let is : why ≡ firstOf refused (firstOf (missing sheet) (room (length words))) =
+      let is : why ≡ firstOf refused (firstOf (missing table) (room (length words))) =
       whys ∙ ap (firstOf refused) (inners ∙ ap₂ firstOf lacks rooms) in
-      let parts : outcome (record { ok = ok; line = line; reason = why; setup = setup; queue = queue % 4096 }) after ≡ outcomeFrom (told line refused sheet) words =
+      let parts : outcome (record { ok = ok; line = line; reason = why; setup = setup; queue = queue % 4096 }) after ≡ outcomeFrom (told line refused table) words =
       λ i. outcome
       (record {
         ok = (oks ∙ ap isFine is) i;
@@ -34,5 +34,5 @@ module _ (text words : List ℕ) {sheet after : List ℕ} {line queue : ℕ} {re
         setup = setups i;
         queue = ap (λ (n : ℕ). n % 4096) queues i;
       })
-      ((stores ∙ ap (λ (w : Reason). storedWords w sheet words) is) i) in
+      ((stores ∙ ap (λ (w : Reason). storedWords w table words) is) i) in
       parts ∙ ap (λ (t : Told). outcomeFrom t words) read

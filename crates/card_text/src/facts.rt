@@ -6,9 +6,9 @@ use crate::reasons::in_range;
 use crate::reasons::unless;
 use crate::reasons::wants_end;
 use crate::reasons::wants_number;
-use crate::sheet::not_twice;
-use crate::sheet::put;
-use crate::sheet::slot_allowed;
+use crate::table::not_twice;
+use crate::table::put;
+use crate::table::slot_allowed;
 use card_grammar::Reason;
 use text_fields::number_at;
 
@@ -22,7 +22,7 @@ pub fn slot_at(line: &[u8]) -> usize
 // Why a line with a name and a number is refused.
 fn why_not_number(
     line: &[u8],
-    sheet: &[usize],
+    table: &[usize],
     place: usize,
     hex: bool,
     least: usize,
@@ -30,10 +30,10 @@ fn why_not_number(
     low: usize,
     high: usize,
 ) -> Reason
-    ensures { λ r. ⌜ r ≡ whyNotNumber place hex least most low high (now (line .entry)) (now (sheet .entry)) ⌝ }
+    ensures { λ r. ⌜ r ≡ whyNotNumber place hex least most low high (now (line .entry)) (now (table .entry)) ⌝ }
 {
     let range = in_range(low, high, number_at(line, 1, hex, least, most));
-    let twice = not_twice(sheet, place);
+    let twice = not_twice(table, place);
     first(
         wants_number(line, 1, hex, least, most),
         first(wants_end(line, 2), first(range, twice)),
@@ -43,7 +43,7 @@ fn why_not_number(
 // A line with a name and a number.
 pub fn enter_number(
     line: &[u8],
-    sheet: &mut [usize],
+    table: &mut [usize],
     place: usize,
     hex: bool,
     least: usize,
@@ -51,11 +51,11 @@ pub fn enter_number(
     low: usize,
     high: usize,
 ) -> Reason
-    ensures { λ r. ⌜ entered r (now (sheet .exit)) ≡ enterNumber place hex least most low high (now (line .entry)) (now (sheet .entry)) ⌝ }
+    ensures { λ r. ⌜ entered r (now (table .exit)) ≡ enterNumber place hex least most low high (now (line .entry)) (now (table .entry)) ⌝ }
 {
-    let why = why_not_number(line, &*sheet, place, hex, least, most, low, high);
+    let why = why_not_number(line, &*table, place, hex, least, most, low, high);
     let n = number_at(line, 1, hex, least, most);
-    put(why, &mut *sheet, place, n);
+    put(why, &mut *table, place, n);
     why
 }
 
@@ -83,34 +83,34 @@ fn default_place(line: &[u8]) -> usize
 }
 
 // Why the word that a line names is refused.
-fn word_allowed(line: &[u8], sheet: &[usize]) -> Reason
-    ensures { λ r. ⌜ r ≡ wordAllowed (now (line .entry)) (now (sheet .entry)) ⌝ }
+fn word_allowed(line: &[u8], table: &[usize]) -> Reason
+    ensures { λ r. ⌜ r ≡ wordAllowed (now (line .entry)) (now (table .entry)) ⌝ }
 {
-    let twice = not_twice(sheet, default_place(line));
+    let twice = not_twice(table, default_place(line));
     let offset = offset_allowed(hex_at(line, 2));
-    let slot = slot_allowed(sheet, slot_at(line));
+    let slot = slot_allowed(table, slot_at(line));
     first(slot, first(offset, twice))
 }
 
 // Why `word N OFFSET VALUE` is refused.
-fn why_not_word(line: &[u8], sheet: &[usize]) -> Reason
-    ensures { λ r. ⌜ r ≡ whyNotWord (now (line .entry)) (now (sheet .entry)) ⌝ }
+fn why_not_word(line: &[u8], table: &[usize]) -> Reason
+    ensures { λ r. ⌜ r ≡ whyNotWord (now (line .entry)) (now (table .entry)) ⌝ }
 {
     let slot = wants_number(line, 1, false, 1, 8);
     let offset = wants_number(line, 2, true, 1, 8);
     let value = wants_number(line, 3, true, 1, 8);
     let end = wants_end(line, 4);
-    let word = word_allowed(line, sheet);
+    let word = word_allowed(line, table);
     first(slot, first(offset, first(value, first(end, word))))
 }
 
 // word N OFFSET VALUE
-pub fn enter_word(line: &[u8], sheet: &mut [usize]) -> Reason
-    ensures { λ r. ⌜ entered r (now (sheet .exit)) ≡ enterWord (now (line .entry)) (now (sheet .entry)) ⌝ }
+pub fn enter_word(line: &[u8], table: &mut [usize]) -> Reason
+    ensures { λ r. ⌜ entered r (now (table .exit)) ≡ enterWord (now (line .entry)) (now (table .entry)) ⌝ }
 {
-    let why = why_not_word(line, &*sheet);
+    let why = why_not_word(line, &*table);
     let place = default_place(line);
     let value = hex_at(line, 3);
-    put(why, &mut *sheet, place, value);
+    put(why, &mut *table, place, value);
     why
 }

@@ -9,11 +9,11 @@ ghost use Rattle.card_grammar.specs.Grammar.{entered, enterLine, told as toldOf
 use crate::facts::enter_number;
 use crate::facts::enter_word;
 use crate::reasons::fine;
-use crate::sheet::BUS;
-use crate::sheet::PORT;
-use crate::sheet::QUEUE;
-use crate::sheet::SLOTS;
 use crate::slots::enter_slot;
+use crate::table::BUS;
+use crate::table::PORT;
+use crate::table::QUEUE;
+use crate::table::SLOTS;
 use card_grammar::Reason;
 use text_fields::field_is;
 use text_fields::line_end;
@@ -26,29 +26,29 @@ pub struct Told {
 }
 
 // One line: nothing but blanks and a comment, or a fact.
-fn enter_line(line: &[u8], sheet: &mut [usize]) -> Reason
-    ensures { λ r. ⌜ entered r (now (sheet .exit)) ≡ enterLine (now (line .entry)) (now (sheet .entry)) ⌝ }
+fn enter_line(line: &[u8], table: &mut [usize]) -> Reason
+    ensures { λ r. ⌜ entered r (now (table .exit)) ≡ enterLine (now (line .entry)) (now (table .entry)) ⌝ }
 {
     if no_field(line, 0) {
         return Reason::Fine;
     }
     if field_is(line, 0, b"slots") {
-        return enter_number(line, &mut *sheet, SLOTS, false, 1, 8, 1, 32);
+        return enter_number(line, &mut *table, SLOTS, false, 1, 8, 1, 32);
     }
     if field_is(line, 0, b"queue") {
-        return enter_number(line, &mut *sheet, QUEUE, false, 1, 8, 1, 4095);
+        return enter_number(line, &mut *table, QUEUE, false, 1, 8, 1, 4095);
     }
     if field_is(line, 0, b"bus") {
-        return enter_number(line, &mut *sheet, BUS, true, 2, 2, 0, 0xFF);
+        return enter_number(line, &mut *table, BUS, true, 2, 2, 0, 0xFF);
     }
     if field_is(line, 0, b"port") {
-        return enter_number(line, &mut *sheet, PORT, true, 4, 4, 0, 0xFFFF);
+        return enter_number(line, &mut *table, PORT, true, 4, 4, 0, 0xFFFF);
     }
     if field_is(line, 0, b"slot") {
-        return enter_slot(line, &mut *sheet);
+        return enter_slot(line, &mut *table);
     }
     if field_is(line, 0, b"word") {
-        return enter_word(line, &mut *sheet);
+        return enter_word(line, &mut *table);
     }
     Reason::UnknownWord
 }
@@ -61,15 +61,15 @@ fn next_line(end: usize, length: usize) -> usize
 }
 
 // The lines in turn, up to the first that is refused.
-pub fn read_lines(text: &[u8], sheet: &mut [usize]) -> Told
-    ensures { λ r. ⌜ toldOf (r .line) (r .reason) (now (sheet .exit)) ≡ readLines 0 (linesOf (now (text .entry))) (now (sheet .entry)) ⌝ }
+pub fn read_lines(text: &[u8], table: &mut [usize]) -> Told
+    ensures { λ r. ⌜ toldOf (r .line) (r .reason) (now (table .exit)) ≡ readLines 0 (linesOf (now (text .entry))) (now (table .entry)) ⌝ }
 {
     let mut at: usize = 0;
     let mut count: usize = 0;
     while at < text.len() {
         let end = line_end(text, at);
         count += 1;
-        let why = enter_line(&text[at..end], &mut *sheet);
+        let why = enter_line(&text[at..end], &mut *table);
         if fine(why) {
             at = next_line(end, text.len());
         } else {

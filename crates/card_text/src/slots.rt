@@ -8,9 +8,9 @@ use crate::reasons::unless;
 use crate::reasons::wants_end;
 use crate::reasons::wants_number;
 use crate::reasons::wants_word;
-use crate::sheet::not_twice;
-use crate::sheet::put;
-use crate::sheet::slot_allowed;
+use crate::table::not_twice;
+use crate::table::put;
+use crate::table::slot_allowed;
 use card_grammar::Reason;
 use text_fields::field_is;
 use text_fields::number_at;
@@ -28,7 +28,7 @@ fn wants_yes_no(line: &[u8], k: usize) -> Reason
     unless(says_yes(line, k), wants_word(b"no", line, k))
 }
 
-// A yes as the sheet has it: 1, and 0 for no.
+// A yes as the table has it: 1, and 0 for no.
 fn yes_number(yes: bool) -> usize
     ensures { λ r. ⌜ r ≡ one yes ⌝ }
 {
@@ -82,11 +82,11 @@ fn entry_place(line: &[u8], j: u8) -> usize
 }
 
 // Why a slot's line is refused.
-fn why_not_slot(line: &[u8], sheet: &[usize]) -> Reason
-    ensures { λ r. ⌜ r ≡ whyNotSlot (now (line .entry)) (now (sheet .entry)) ⌝ }
+fn why_not_slot(line: &[u8], table: &[usize]) -> Reason
+    ensures { λ r. ⌜ r ≡ whyNotSlot (now (line .entry)) (now (table .entry)) ⌝ }
 {
-    let twice = not_twice(sheet, entry_place(line, 0));
-    let slot = slot_allowed(sheet, slot_at(line));
+    let twice = not_twice(table, entry_place(line, 0));
+    let slot = slot_allowed(table, slot_at(line));
     let rest = first(why_not_frs(line), first(slot, twice));
     first(
         wants_number(line, 1, false, 1, 8),
@@ -95,32 +95,32 @@ fn why_not_slot(line: &[u8], sheet: &[usize]) -> Reason
 }
 
 // The code in field k is named as the slot's time j.
-fn put_code(why: Reason, line: &[u8], sheet: &mut [usize], j: u8, k: usize)
-    ensures { λ r. ⌜ now (sheet .exit) ≡ putCode why j k (now (line .entry)) (now (sheet .entry)) ⌝ }
+fn put_code(why: Reason, line: &[u8], table: &mut [usize], j: u8, k: usize)
+    ensures { λ r. ⌜ now (table .exit) ≡ putCode why j k (now (line .entry)) (now (table .entry)) ⌝ }
 {
     let place = entry_place(line, j);
     let code = code_at(line, k);
-    put(why, &mut *sheet, place, code);
+    put(why, &mut *table, place, code);
 }
 
 // Whether the slot sends FRS is named.
-fn put_frs(why: Reason, line: &[u8], sheet: &mut [usize])
-    ensures { λ r. ⌜ now (sheet .exit) ≡ putFrs why (now (line .entry)) (now (sheet .entry)) ⌝ }
+fn put_frs(why: Reason, line: &[u8], table: &mut [usize])
+    ensures { λ r. ⌜ now (table .exit) ≡ putFrs why (now (line .entry)) (now (table .entry)) ⌝ }
 {
     let place = entry_place(line, 4);
     let frs = yes_number(says_yes(line, 11));
-    put(why, &mut *sheet, place, frs);
+    put(why, &mut *table, place, frs);
 }
 
 // slot N reset HHH dlup HHH flr HHH d3hot HHH frs yes|no
-pub fn enter_slot(line: &[u8], sheet: &mut [usize]) -> Reason
-    ensures { λ r. ⌜ entered r (now (sheet .exit)) ≡ enterSlot (now (line .entry)) (now (sheet .entry)) ⌝ }
+pub fn enter_slot(line: &[u8], table: &mut [usize]) -> Reason
+    ensures { λ r. ⌜ entered r (now (table .exit)) ≡ enterSlot (now (line .entry)) (now (table .entry)) ⌝ }
 {
-    let why = why_not_slot(line, &*sheet);
-    put_code(why, line, &mut *sheet, 0, 3);
-    put_code(why, line, &mut *sheet, 1, 5);
-    put_code(why, line, &mut *sheet, 2, 7);
-    put_code(why, line, &mut *sheet, 3, 9);
-    put_frs(why, line, &mut *sheet);
+    let why = why_not_slot(line, &*table);
+    put_code(why, line, &mut *table, 0, 3);
+    put_code(why, line, &mut *table, 1, 5);
+    put_code(why, line, &mut *table, 2, 7);
+    put_code(why, line, &mut *table, 3, 9);
+    put_frs(why, line, &mut *table);
     why
 }

@@ -1,24 +1,22 @@
 // The two calls that the cases drive.
 use crate::turn::Turn;
 use feed::Fed;
-use readiness::Setup;
 use set_up::SetUp;
 
 pub fn set_up_lent(
-    setup: Setup,
     lent: usize,
     turn: Turn,
     live: &mut [u32],
     defaults: &[u32],
     cells: &mut [u32],
 ) -> SetUp {
+    let setup = turn.setup;
     let port = turn.port;
     let statuses = turn.statuses;
     bench_by_value::set_up_first(setup, port, statuses, lent, live, defaults, cells)
 }
 
 pub fn feed_lent(
-    setup: Setup,
     lent: usize,
     turn: Turn,
     live: &mut [u32],
@@ -27,6 +25,7 @@ pub fn feed_lent(
     input: &[u8],
     answers: &mut [u8],
 ) -> Fed {
+    let setup = turn.setup;
     let port = turn.port;
     let statuses = turn.statuses;
     bench_by_value::feed_first(

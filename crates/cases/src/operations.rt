@@ -35,29 +35,29 @@ fn write_state(lent: usize, port: Port, statuses: [Status; 32], live: &[u32], ce
 // After a call: the state is written.
 fn after_call(
     lent: usize,
+    setup: Setup,
     port: Port,
     statuses: [Status; 32],
     live: &[u32],
     cells: &[u32],
 ) -> Turn {
     write_state(lent, port, statuses, live, cells);
-    turned(true, port, statuses)
+    turned(true, setup, port, statuses)
 }
 
 // 01
 pub fn set_up_operation(
-    setup: Setup,
     lent: usize,
     turn: Turn,
     live: &mut [u32],
     defaults: &[u32],
     cells: &mut [u32],
 ) -> Turn {
-    let made = set_up_lent(setup, lent, turn, &mut *live, defaults, &mut *cells);
+    let made = set_up_lent(lent, turn, &mut *live, defaults, &mut *cells);
     let port = made.port;
     let statuses = made.statuses;
     write_number(made.number);
-    after_call(lent, port, statuses, live, cells)
+    after_call(lent, turn.setup, port, statuses, live, cells)
 }
 
 // A call's room and input length, and whether they and the input are there.
@@ -92,7 +92,6 @@ fn write_answers(fed: Fed, answers: &[u8], room: usize) {
 
 // Feeds the first n bytes of the input with so much room for answers.
 fn feed_first(
-    setup: Setup,
     lent: usize,
     turn: Turn,
     live: &mut [u32],
@@ -105,7 +104,6 @@ fn feed_first(
     let n = at_most(call.n, input.len());
     let room = at_most(call.room, answers.len());
     feed_lent(
-        setup,
         lent,
         turn,
         live,
@@ -118,7 +116,6 @@ fn feed_first(
 
 // 02: every answer byte is EEh before the call.
 pub fn feed_operation(
-    setup: Setup,
     lent: usize,
     turn: Turn,
     live: &mut [u32],
@@ -132,7 +129,6 @@ pub fn feed_operation(
         return ended(turn, false);
     }
     let fed = feed_first(
-        setup,
         lent,
         turn,
         &mut *live,
@@ -145,7 +141,7 @@ pub fn feed_operation(
     let port = fed.port;
     let statuses = fed.statuses;
     write_answers(fed, &answers, call.room);
-    after_call(lent, port, statuses, live, cells)
+    after_call(lent, turn.setup, port, statuses, live, cells)
 }
 
 // Reads a state image; false where it is malformed, and where the input ends before.
@@ -163,8 +159,8 @@ fn read_state(lent: usize, image: &mut [u8], live: &mut [u32], cells: &mut [u32]
 }
 
 // 03: a state replaces what is lent.
-pub fn lend_operation(lent: usize, live: &mut [u32], cells: &mut [u32]) -> Turn {
+pub fn lend_operation(lent: usize, setup: Setup, live: &mut [u32], cells: &mut [u32]) -> Turn {
     let mut image = [0u8; 910];
     let good = read_state(lent, &mut image, live, cells);
-    turned(good, port_in(&image), statuses_in(&image))
+    turned(good, setup, port_in(&image), statuses_in(&image))
 }

@@ -12,6 +12,7 @@ use crate::message_operations::write_operation;
 use crate::operations::feed_operation;
 use crate::operations::lend_operation;
 use crate::operations::set_up_operation;
+use crate::sheet_operation::sheet_operation;
 use crate::turn::Turn;
 use crate::turn::ended;
 use crate::turn::turned;
@@ -21,14 +22,13 @@ use readiness::all_down;
 use records::blank_port;
 
 // A case starts with everything at 0, statuses Down.
-fn first_turn() -> Turn {
-    turned(true, blank_port(), all_down())
+fn first_turn(setup: Setup) -> Turn {
+    turned(true, setup, blank_port(), all_down())
 }
 
 // One operation; 00 ends the case, and any other number is a bad one.
 fn operate(
     operation: u8,
-    setup: Setup,
     lent: usize,
     turn: Turn,
     live: &mut [u32],
@@ -36,9 +36,10 @@ fn operate(
     cells: &mut [u32],
 ) -> Turn {
     match operation {
-        1 => set_up_operation(setup, lent, turn, live, defaults, cells),
-        2 => feed_operation(setup, lent, turn, live, defaults, cells),
-        3 => lend_operation(lent, live, cells),
+        1 => set_up_operation(lent, turn, live, defaults, cells),
+        2 => feed_operation(lent, turn, live, defaults, cells),
+        3 => lend_operation(lent, turn.setup, live, cells),
+        4 => sheet_operation(turn),
         0x0D => went_by(turn, write_operation()),
         0x0E => went_by(turn, read_operation()),
         _ => ended(turn, operation == 0),
@@ -53,19 +54,11 @@ fn run_operations(
     defaults: &[u32],
     cells: &mut [u32],
 ) -> bool {
-    let mut turn = first_turn();
+    let mut turn = first_turn(setup);
     let mut turns = u64::MAX;
     while turns > 0 && turn.goes_on {
         let operation = byte_or_255();
-        turn = operate(
-            operation,
-            setup,
-            lent,
-            turn,
-            &mut *live,
-            defaults,
-            &mut *cells,
-        );
+        turn = operate(operation, lent, turn, &mut *live, defaults, &mut *cells);
         turns -= 1;
     }
     turn.good

@@ -1,15 +1,14 @@
 // A card from its file.
-use bits::at_most;
 use bits::u64_of_usize;
 use card_grammar::Reason;
 use cli_arguments::outcome::Outcome;
-use cli_io::files::close_file;
 use cli_io::files::complain;
 use cli_io::files::complain_line;
 use cli_io::files::complain_read;
-use cli_io::files::last_error;
 use cli_io::files::name_file;
-use cli_io::files::open_file;
+use cli_io::text_file::TEXT;
+use cli_io::text_file::TextRead;
+use cli_io::text_file::read_text;
 use readiness::Setup;
 use readiness::blank_setup;
 use text_line::text::LINE;
@@ -103,57 +102,13 @@ fn refuse(i: usize, number: usize, reason: Reason) -> Loaded {
 
 // ---- Reading
 
-// The most bytes that a card has, and one more, which shows that a file is longer.
-const TEXT: usize = 131072;
-
-// How many bytes of a file were read, whether there are more, and the error that ended the reading, 0 where none did.
-pub struct Filled {
-    pub goes_on: bool,
-    pub count: usize,
-    pub error: i32,
-}
-
-// Reads what comes next.
-fn fill_more(fd: i32, f: Filled, text: &mut [u8]) -> Filled {
-    let at = at_most(f.count, text.len());
-    let got = libc::read(fd, &mut text[at..]);
-    if got < 0 {
-        return Filled {
-            goes_on: false,
-            count: at,
-            error: last_error(),
-        };
-    }
-    let n = io::count(got, &text[at..]);
-    Filled {
-        goes_on: n > 0,
-        count: at + n,
-        error: 0,
-    }
-}
-
-// Reads a file until its end, or until the room is full.
-fn fill(fd: i32, text: &mut [u8]) -> Filled {
-    let mut f = Filled {
-        goes_on: true,
-        count: 0,
-        error: 0,
-    };
-    let mut turns: usize = TEXT + 1;
-    while turns > 0 && f.goes_on {
-        f = fill_more(fd, f, &mut *text);
-        turns -= 1;
-    }
-    f
-}
-
 fn too_long(i: usize) -> Loaded {
     name_file(i);
     complain(b"too long: expected a card of fewer than 131072 bytes\n");
     no_card(Outcome::Refused)
 }
 
-fn unread(i: usize, f: Filled) -> Loaded {
+fn unread(i: usize, f: TextRead) -> Loaded {
     complain_read(i, u64_of_usize(f.count), f.error);
     no_card(Outcome::Unusable)
 }
@@ -175,7 +130,7 @@ fn card_of(i: usize, text: &[u8], words: &mut [u32]) -> Loaded {
 }
 
 // The card in what was read.
-fn card_in(i: usize, text: &[u8], f: Filled, words: &mut [u32]) -> Loaded {
+fn card_in(i: usize, text: &[u8], f: TextRead, words: &mut [u32]) -> Loaded {
     if f.error != 0 {
         return unread(i, f);
     }
@@ -188,12 +143,10 @@ fn card_in(i: usize, text: &[u8], f: Filled, words: &mut [u32]) -> Loaded {
 
 // The card in the file that argument i names; its default words are put into the words lent.
 pub fn load_card(i: usize, words: &mut [u32]) -> Loaded {
-    let fd = open_file(i);
-    if fd < 0 {
+    let mut text = [0u8; TEXT];
+    let f = read_text(i, &mut text);
+    if !f.opened {
         return no_card(Outcome::Unusable);
     }
-    let mut text = [0u8; TEXT];
-    let f = fill(fd, &mut text);
-    close_file(fd);
     card_in(i, &text, f, words)
 }

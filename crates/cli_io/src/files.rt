@@ -1,4 +1,5 @@
 // Files by the arguments that name them, and what is wrong with them.
+ghost use mathlib.Core.Path.{_≡_};
 use bits::u64_of_usize;
 use text_line::text::LINE;
 use text_line::text::put_named;
@@ -126,7 +127,9 @@ pub fn complain_write(error: i32) {
 }
 
 // The error of a write to standard output, if there was one, is said and given back.
-pub fn after_printing(error: i32) -> i32 {
+pub fn after_printing(error: i32) -> i32
+    ensures { λ r. ⌜ r ≡ error ⌝ }
+{
     if error != 0 {
         complain(b"standard output: ");
         complain_write(error);

@@ -26,8 +26,10 @@ fn write_bytes(fd: i32, bytes: &[u8]) -> i32 {
     last_error()
 }
 
-// Writes what waits. Nothing is written after an error, nor where there is no file (-1).
-pub fn flush(fd: i32, buffer: &[u8], w: Waiting) -> Waiting {
+// Writes what waits, so that nothing waits. Nothing is written after an error, nor where there is no file (-1).
+pub fn flush(fd: i32, buffer: &[u8], w: Waiting) -> Waiting
+    ensures { λ r. ⌜ r .count ≡ 0 ⌝ }
+{
     let n = at_most(w.count, buffer.len());
     if (fd < 0) | (w.error != 0) {
         return Waiting {
@@ -69,6 +71,8 @@ pub fn end_line(buffer: &mut [u8], w: Waiting, end: usize) -> Waiting {
 }
 
 // What waits for standard output is written.
-pub fn flush_out(buffer: &[u8], w: Waiting) -> Waiting {
+pub fn flush_out(buffer: &[u8], w: Waiting) -> Waiting
+    ensures { λ r. ⌜ r .count ≡ 0 ⌝ }
+{
     flush(libc::STDOUT_FILENO, buffer, w)
 }

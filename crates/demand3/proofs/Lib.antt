@@ -1,6 +1,5 @@
 pub mod Cases
 pub mod Demand3
-pub mod Before
 pub mod Refusals
 pub mod SettingUp
 pub mod Good

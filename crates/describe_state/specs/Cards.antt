@@ -7,6 +7,7 @@ use Rattle.times.specs.Codes.{allowed, nanosOf}
 use Rattle.readiness.specs.declared.Slot.{Slot}
 use Rattle.bits.specs.Text.{chars}
 use Rattle.text_line.specs.Text.{hexOf, named, textIf}
+use Rattle.describe_times.specs.Times.{timeText}
 use Rattle.describe_records.specs.Records.{idText, wordText}
 
 -- slots, queue, bus number and the port's ID
@@ -24,8 +25,8 @@ unfoldable pub codeText : List ℕ → Code → List ℕ
 codeText name code =
     name
     ++ hexOf 3 (code .0)
-    ++ named (chars "h = ") (nanosOf code .0)
-    ++ chars " ns"
+    ++ chars "h = "
+    ++ timeText (nanosOf code)
     ++ textIf (not (allowed code)) (chars " (above A1Eh: refused)")
 
 -- a slot's four codes, and whether it sends FRS

@@ -3,6 +3,7 @@ ghost use Rattle.text_line.specs.Line.{Put};
 ghost use Rattle.describe_state.specs.Cards.{frontText, codeText, entryText, defaultText};
 use describe_records::record_words::put_id;
 use describe_records::record_words::put_word;
+use describe_times::time_words::put_time;
 use readiness::Slot;
 use text_line::text::put_either;
 use text_line::text::put_hex2;
@@ -37,13 +38,8 @@ fn put_code(line: &mut [u8], at: usize, name: &[u8], code: Code) -> usize
 {
     let a = put_text(&mut *line, at, name);
     let b = put_hex3(&mut *line, a, times::code_number(code) as u64);
-    let c = put_named(
-        &mut *line,
-        b,
-        b"h = ",
-        times::nanos_number(times::in_nanos(code)),
-    );
-    let d = put_text(&mut *line, c, b" ns");
+    let c = put_text(&mut *line, b, b"h = ");
+    let d = put_time(&mut *line, c, times::in_nanos(code));
     put_if(line, d, !times::allowed(code), b" (above A1Eh: refused)")
 }
 

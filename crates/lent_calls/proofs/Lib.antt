@@ -1,3 +1,2 @@
 pub mod Theorem
-pub mod Before
 pub mod Laws

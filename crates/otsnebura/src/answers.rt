@@ -20,7 +20,7 @@ pub fn overwrites_input(o: Options) -> bool {
         complain_input(o, b"card");
         return true;
     }
-    if name_one_file(o.answers, o.trace) {
+    if name_one_file(o.answers, o.input) {
         complain_input(o, b"trace");
         return true;
     }

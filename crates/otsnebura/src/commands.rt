@@ -2,7 +2,8 @@
 use crate::answers::overwrites_input;
 use crate::help::help;
 use crate::options::Options;
-use crate::options::is_usable;
+use crate::options::is_run;
+use crate::options::is_sheet;
 use crate::options::options_given;
 use crate::run::run;
 use cli_arguments::arguments::arg_count;
@@ -14,6 +15,9 @@ use cli_card::card_file::load_card;
 use cli_card::card_shown::show_card;
 use cli_io::files::close_file;
 use cli_io::files::open_file;
+use cli_sheet::code_shown::code_command;
+use cli_sheet::sheet_shown::SheetCall;
+use cli_sheet::sheet_shown::sheet_command;
 use cli_tools::message::message_command;
 use cli_tools::pack::pack;
 use cli_tools::show::show;
@@ -56,10 +60,23 @@ fn card_command() -> Outcome {
     loaded.outcome
 }
 
+// The card with the times of a sheet.
+fn times_command() -> Outcome {
+    let o = options_given();
+    if !is_sheet(o) {
+        return bad_usage(b"sheet wants CARD and SHEET, and takes --check");
+    }
+    sheet_command(SheetCall {
+        card: o.card,
+        sheet: o.input,
+        check: o.check,
+    })
+}
+
 // ---- Run
 
 fn run_card(card: Loaded, words: &[u32], o: Options) -> Outcome {
-    let trace = open_file(o.trace);
+    let trace = open_file(o.input);
     if trace < 0 {
         return Outcome::Unusable;
     }
@@ -71,7 +88,7 @@ fn run_card(card: Loaded, words: &[u32], o: Options) -> Outcome {
 
 fn run_command() -> Outcome {
     let o = options_given();
-    if !is_usable(o) {
+    if !is_run(o) {
         return bad_usage(b"run wants CARD and TRACE, and takes --quiet and --answers FILE");
     }
     if overwrites_input(o) {
@@ -94,13 +111,16 @@ fn file_command() -> Outcome {
     if arg_is(1, b"card") {
         return card_command();
     }
+    if arg_is(1, b"sheet") {
+        return times_command();
+    }
     if arg_is(1, b"show") {
         return show_command();
     }
     if arg_is(1, b"pack") {
         return pack_command();
     }
-    bad_usage(b"unknown command: expected run, card, show, pack or message")
+    bad_usage(b"unknown command: expected run, card, sheet, code, show, pack or message")
 }
 
 pub fn command() -> Outcome {
@@ -112,6 +132,9 @@ pub fn command() -> Outcome {
     }
     if arg_is(1, b"message") {
         return message_command();
+    }
+    if arg_is(1, b"code") {
+        return code_command();
     }
     file_command()
 }

@@ -23,11 +23,26 @@ fn help_commands() {
         b"                         (FILE is emptied once the card is set up; it can't be the card or the trace)\n",
     );
     say(b"  otsnebura card CARD    the card with each time code in ns\n");
+    help_sheets();
     say(b"  otsnebura show TRACE   the records of a trace in words\n");
     say(b"  otsnebura pack HEX     hex text, with blanks and # comments, to raw bytes\n");
     say(b"  otsnebura message read HEX | drs ID | frs ID REASON\n");
     say(b"                         one 16-byte DRS or FRS, read or written, in hex\n");
     say(b"  otsnebura --help       this page\n\n");
+}
+
+fn help_sheets() {
+    say(b"  otsnebura sheet CARD SHEET [--check]\n");
+    say(
+        b"                         the card with the times of a sheet, as a CARD file; where a time is far from\n",
+    );
+    say(
+        b"                         the card's, a line on standard error; --check: what is wrong alone\n",
+    );
+    say(b"  otsnebura code TIME UNIT\n");
+    say(
+        b"                         the code of a time, 1 to 10 digits in ns, us or ms, and the next lower one\n",
+    );
 }
 
 fn help_trace() {
@@ -61,6 +76,13 @@ fn help_card() {
     say(b"  word N OFFSET VALUE               a default word, in hex; others are 0\n\n");
 }
 
+fn help_sheet() {
+    say(b"SHEET is text, one slot a line, one space between, and 0Ah after each line:\n\n");
+    say(
+        b"  slot reset dlup flr d3hot unit    the slot and its four times in decimal; unit ns, us or ms\n\n",
+    );
+}
+
 fn help_end() -> i32 {
     say(
         b"Exit status: 0 done; 1 refused, or a broken or cut trace; 2 bad usage, or a file that can't be read or written.\n",
@@ -71,6 +93,7 @@ pub fn help() -> Outcome {
     help_commands();
     help_trace();
     help_card();
+    help_sheet();
     let error = after_printing(help_end());
     unless_error(error, Outcome::Done)
 }

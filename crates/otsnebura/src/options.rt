@@ -1,13 +1,15 @@
-// What stands after `run`: two files, --quiet and --answers FILE, in any order.
+// What stands after `run`: two files, --quiet and --answers FILE, in any order. After `sheet`: two files and --check.
 use cli_arguments::arguments::arg_count;
 use cli_arguments::arguments::arg_is;
 
 // Which argument is which, by its number, 0 where it isn't there.
 pub struct Options {
     pub card: usize,
-    pub trace: usize,
+    // The trace, or the sheet.
+    pub input: usize,
     pub answers: usize,
     pub quiet: bool,
+    pub check: bool,
     // The next argument is the file of --answers.
     pub wants_file: bool,
     // There are arguments that nothing asks for.
@@ -17,23 +19,24 @@ pub struct Options {
 fn no_options() -> Options {
     Options {
         card: 0,
-        trace: 0,
+        input: 0,
         answers: 0,
         quiet: false,
+        check: false,
         wants_file: false,
         bad: false,
     }
 }
 
-// The first file is the card, the second the trace.
+// The first file is the card, the second the trace or the sheet.
 fn with_file(o: Options, i: usize) -> Options {
     let mut p = o;
     if o.card == 0 {
         p.card = i;
         return p;
     }
-    if o.trace == 0 {
-        p.trace = i;
+    if o.input == 0 {
+        p.input = i;
         return p;
     }
     p.bad = true;
@@ -78,6 +81,10 @@ fn with_argument(o: Options, i: usize) -> Options {
         p.quiet = true;
         return p;
     }
+    if arg_is(i, b"--check") {
+        p.check = true;
+        return p;
+    }
     if arg_is(i, b"--answers") {
         return with_answers(o);
     }
@@ -91,7 +98,7 @@ fn with_argument_if_any(o: Options, i: usize) -> Options {
     o
 }
 
-// The options among the first eight arguments; run never has more.
+// The options among the first eight arguments; no command has more.
 pub fn options_given() -> Options {
     let mut o = no_options();
     let mut i: usize = 2;
@@ -103,6 +110,16 @@ pub fn options_given() -> Options {
 }
 
 // Both files are there, and nothing too much or too little.
-pub fn is_usable(o: Options) -> bool {
-    (o.card > 0) & (o.trace > 0) & !o.wants_file & !o.bad & (arg_count() <= 8)
+fn is_whole(o: Options) -> bool {
+    (o.card > 0) & (o.input > 0) & !o.wants_file & !o.bad & (arg_count() <= 8)
+}
+
+// Whether they are those of `run`.
+pub fn is_run(o: Options) -> bool {
+    is_whole(o) & !o.check
+}
+
+// Whether they are those of `sheet`.
+pub fn is_sheet(o: Options) -> bool {
+    is_whole(o) & !o.quiet & (o.answers == 0)
 }

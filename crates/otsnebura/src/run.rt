@@ -59,7 +59,7 @@ fn outcome_of_run(session: Session) -> Outcome {
 // What is wrong with the trace.
 fn complain_trace(o: Options, session: Session) {
     let fault = fault_of(session);
-    complain_fault(o.trace, fault_offset(session), fault);
+    complain_fault(o.input, fault_offset(session), fault);
 }
 
 // Everything is written, and what went wrong is said.
@@ -80,7 +80,7 @@ fn close_run(
     let lost = close_answers(o, way, answers, kept);
     let unprinted = close_printed(setup, t, cells, printed);
     if piece.error != 0 {
-        complain_read(o.trace, session.offset, piece.error);
+        complain_read(o.input, session.offset, piece.error);
         return Outcome::Unusable;
     }
     complain_trace(o, session);

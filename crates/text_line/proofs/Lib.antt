@@ -1,3 +1,5 @@
 pub mod Putting
 mod Numerals
+pub mod Groups
+mod Examples
 pub mod Laws

@@ -2,7 +2,7 @@
 use Prim.Native.Nat.{ℕ, zero, suc, _+_, _/_, _%_}
 use mathlib.Core.Bool.{Bool, true, false, cond}
 use mathlib.Core.List.{List, [], _∷_, _++_}
-use lib.Dec.{ltb}
+use lib.Dec.{eqb, ltb}
 use Rattle.bits.specs.Text.{chars}
 
 -- a digit below 16: '0' to '9', 'A' to 'F'
@@ -22,6 +22,28 @@ decimalFrom (suc most) n = cond (ltb n 10) (glyphOf n ∷ []) (decimalFrom most 
 -- a number below 2^64 in decimal
 abbrev pub decimalOf : ℕ → List ℕ
 decimalOf n = decimalFrom 20 n
+
+-- the last three decimal digits, zeros in front
+unfoldable pub threeOf : ℕ → List ℕ
+threeOf n = glyphOf (n / 100 % 10) ∷ glyphOf (n / 10 % 10) ∷ glyphOf (n % 10) ∷ []
+
+-- the last six
+unfoldable pub sixOf : ℕ → List ℕ
+sixOf n = threeOf (n / 1000) ++ threeOf n
+
+-- a number in decimal with a comma before each three digits from the right, where it has at most so many groups
+unfoldable pub groupedFrom : (most : ℕ) → ℕ → List ℕ
+groupedFrom zero n = []
+groupedFrom (suc most) n = cond (ltb n 1000) (decimalOf n) (groupedFrom most (n / 1000) ++ chars "," ++ threeOf n)
+
+-- a number below 2^64 so
+abbrev pub groupedOf : ℕ → List ℕ
+groupedOf n = groupedFrom 7 n
+
+-- a text without its commas
+unfoldable pub withoutCommas : List ℕ → List ℕ
+withoutCommas [] = []
+withoutCommas (b ∷ text) = cond (eqb b 0x2C) (withoutCommas text) (b ∷ withoutCommas text)
 
 -- a text where it applies
 unfoldable pub textIf : Bool → List ℕ → List ℕ

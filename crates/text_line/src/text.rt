@@ -3,7 +3,8 @@ ghost use mathlib.Core.Path.{_≡_};
 ghost use mathlib.Core.Bool.{cond};
 ghost use mathlib.Core.List.{[], _∷_};
 ghost use Rattle.text_line.specs.Line.{Put};
-ghost use Rattle.text_line.specs.Text.{glyphOf, hexOf, decimalOf, named, textIf, shortMargin, marginOf, columnOf, spacedOf, bytesOf};
+ghost use Rattle.text_line.specs.Text.{glyphOf, hexOf, decimalOf, threeOf, sixOf, groupedOf, named, textIf, shortMargin, marginOf, columnOf, spacedOf, bytesOf};
+ghost use Rattle.text_line.specs.inner.Groups.{higherGroup, lastGroup};
 
 // The longest line that is written.
 pub const LINE: usize = 1024;
@@ -86,6 +87,62 @@ pub fn put_hex8(line: &mut [u8], at: usize, n: u64) -> usize
 {
     let next = put_hex4(&mut *line, at, n / 65536);
     put_hex4(line, next, n)
+}
+
+// The last three decimal digits, zeros in front.
+pub fn put_three(line: &mut [u8], at: usize, n: u64) -> usize
+    ensures { λ r. ⌜ Put (threeOf n) at (now (line .entry)) r (now (line .exit)) ⌝ }
+{
+    let a = put_byte(&mut *line, at, glyph((n / 100 % 10) as u8));
+    let b = put_byte(&mut *line, a, glyph((n / 10 % 10) as u8));
+    put_byte(line, b, glyph((n % 10) as u8))
+}
+
+// The last six.
+pub fn put_six(line: &mut [u8], at: usize, n: u64) -> usize
+    ensures { λ r. ⌜ Put (sixOf n) at (now (line .entry)) r (now (line .exit)) ⌝ }
+{
+    let next = put_three(&mut *line, at, n / 1000);
+    put_three(line, next, n)
+}
+
+// The last group of three digits, after a comma where digits stand before it.
+fn put_last_group(line: &mut [u8], at: usize, n: u64) -> usize
+    ensures { λ r. ⌜ Put (lastGroup n) at (now (line .entry)) r (now (line .exit)) ⌝ }
+{
+    if n < 1000 {
+        return put_decimal(line, at, n);
+    }
+    let next = put_text(&mut *line, at, b",");
+    put_three(line, next, n)
+}
+
+// The same of a group before the last, where there is one.
+fn put_higher_group(line: &mut [u8], at: usize, n: u64) -> usize
+    ensures { λ r. ⌜ Put (higherGroup n) at (now (line .entry)) r (now (line .exit)) ⌝ }
+{
+    if n == 0 {
+        return at;
+    }
+    put_last_group(line, at, n)
+}
+
+// A number in decimal, with a comma before each three digits from the right. Below 2^64 there are at most seven groups.
+pub fn put_grouped(line: &mut [u8], at: usize, n: u64) -> usize
+    ensures { λ r. ⌜ Put (groupedOf n) at (now (line .entry)) r (now (line .exit)) ⌝ }
+{
+    let k = n / 1000;
+    let m = k / 1000;
+    let g = m / 1000;
+    let t = g / 1000;
+    let p = t / 1000;
+    let a = put_higher_group(&mut *line, at, p / 1000);
+    let b = put_higher_group(&mut *line, a, p);
+    let c = put_higher_group(&mut *line, b, t);
+    let d = put_higher_group(&mut *line, c, g);
+    let e = put_higher_group(&mut *line, d, m);
+    let f = put_higher_group(&mut *line, e, k);
+    put_last_group(line, f, n)
 }
 
 // A name and a number after it.

@@ -1,9 +1,12 @@
 //! Cases made from a seed and a case number.
 
+pub mod cards;
+mod damage;
 mod messages;
 pub mod records;
 mod script;
 pub mod setups;
+pub mod sheets;
 pub mod states;
 
 use crate::random::Random;
@@ -14,14 +17,38 @@ use script::Script;
 /// The case with this number of this seed.
 pub fn case(seed: u64, number: u64) -> Case {
     let mut random = Random::for_case(seed, number);
-    match random.weighted(&[140, 160, 280, 375, 40, 50, 5]) {
+    match random.weighted(&[140, 160, 280, 375, 40, 50, 5, 60, 60]) {
         0 => bad_set_up(&mut random),
         1 => unsound_state(&mut random),
         2 => made_up_state(&mut random),
         3 => reached_state(&mut random),
         4 => never_set_up(&mut random),
         5 => messages_alone(&mut random),
-        _ => long_trace(&mut random),
+        6 => long_trace(&mut random),
+        7 => sheets_and_traces(&mut random),
+        _ => sheets_alone(&mut random),
+    }
+}
+
+/// The case with this number of this seed that is made of sheets alone.
+pub fn case_of_sheets(seed: u64, number: u64) -> Case {
+    sheets_alone(&mut Random::for_case(!seed, number))
+}
+
+/// What cases are made of.
+#[derive(Clone, Copy, PartialEq, Eq, Debug)]
+pub enum Of {
+    Everything,
+    Sheets,
+}
+
+impl Of {
+    /// The case with this number of this seed.
+    pub fn case(self, seed: u64, number: u64) -> Case {
+        match self {
+            Of::Everything => case(seed, number),
+            Of::Sheets => case_of_sheets(seed, number),
+        }
     }
 }
 
@@ -41,6 +68,9 @@ fn bad_set_up(random: &mut Random) -> Case {
         }
         if random.chance(20) {
             script.lend_anything(random);
+        }
+        if random.chance(15) {
+            script.sheet(random);
         }
         script.feed_something(random);
         if random.chance(30) {
@@ -134,4 +164,36 @@ fn never_set_up(random: &mut Random) -> Case {
         let records = 1 + random.below(12);
         script.feed_trace(random, records);
     })
+}
+
+/// Sheets before and after a set-up and between feeds; half the time one that mends a code.
+fn sheets_and_traces(random: &mut Random) -> Case {
+    let mends = random.chance(40);
+    let setup = if mends { setups::with_bad_code(random) } else { setups::good(random) };
+    finish(setup, |script| {
+        if random.chance(40) {
+            script.set_up();
+        }
+        for _ in 0..random.below(3) {
+            script.sheet(random);
+        }
+        if mends || random.chance(30) {
+            script.sheet_of_all_slots(random);
+        }
+        script.set_up();
+        script.scenario(random);
+        script.sheet(random);
+        script.scenario(random);
+        let records = 1 + random.below(8);
+        script.feed_trace(random, records);
+    })
+}
+
+/// Sheets alone, with nothing lent, so that the case is small.
+fn sheets_alone(random: &mut Random) -> Case {
+    let setup = setups::with_nothing_lent(random);
+    let count = 4 + random.below(12);
+    let texts = (0..count).map(|_| sheets::any(random, setup.slots));
+    let operations = texts.map(Operation::Sheet).collect();
+    Case { setup, operations }
 }

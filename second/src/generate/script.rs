@@ -2,7 +2,7 @@
 
 use crate::bench::Bench;
 use crate::faults::Fault;
-use crate::generate::{messages, records};
+use crate::generate::{messages, records, sheets};
 use crate::random::Random;
 use crate::records::record_length;
 use crate::run::{run_operation, Gave};
@@ -30,8 +30,8 @@ impl<'a> Script<'a> {
         Script { bench: Bench::new(setup, Fault::None), operations: Vec::new() }
     }
 
-    pub fn setup(&self) -> &'a Setup {
-        self.bench.setup
+    pub fn setup(&self) -> &Setup {
+        &self.bench.setup
     }
 
     pub fn into_operations(self) -> Vec<Operation> {
@@ -57,6 +57,18 @@ impl<'a> Script<'a> {
     /// Writes a message or reads one, which leaves the state alone.
     pub fn message(&mut self, random: &mut Random) {
         self.push(messages::any(random));
+    }
+
+    /// Any sheet; its codes stand from here on.
+    pub fn sheet(&mut self, random: &mut Random) {
+        let text = sheets::any(random, self.setup().slots);
+        self.push(Operation::Sheet(text));
+    }
+
+    /// A sheet that names every slot and is accepted.
+    pub fn sheet_of_all_slots(&mut self, random: &mut Random) {
+        let text = sheets::of_all_slots(random, self.setup().slots);
+        self.push(Operation::Sheet(text));
     }
 
     /// Lends a state that fits the lengths only.
@@ -170,6 +182,9 @@ impl<'a> Script<'a> {
             let consumed = self.feed_piece(random, input);
             if random.chance(8) {
                 self.message(random);
+            }
+            if random.chance(3) {
+                self.sheet(random);
             }
             from += if random.chance(97) { consumed } else { input.len() };
         }

@@ -202,3 +202,38 @@ pub fn bad(random: &mut Random) -> Setup {
     }
     setup
 }
+
+/// A set-up with a code that is too high, and nothing else wrong.
+pub fn with_bad_code(random: &mut Random) -> Setup {
+    let mut setup = good(random);
+    spoil_codes(&mut setup, random);
+    setup
+}
+
+/// A set-up of any count of slots with any codes and no memory, which is refused with 1 but for its sheets.
+pub fn with_nothing_lent(random: &mut Random) -> Setup {
+    let slots = match random.below(10) {
+        0..=2 => MOST_SLOTS as u8,
+        3 => random.pick(&[0, 1, 31, 33, 34, 64, 255]),
+        _ => 1 + random.below(MOST_SLOTS) as u8,
+    };
+    let entry = |random: &mut Random| {
+        let mut codes = [0; 4].map(|_| code(random));
+        if random.chance(10) {
+            codes = [0; 4].map(|_| Code(random.u16()));
+        }
+        let [reset, dl_up, flr, d3hot] = codes;
+        SlotEntry { reset, dl_up, flr, d3hot, sends_frs: random.chance(50), ..SlotEntry::BLANK }
+    };
+    Setup {
+        slots,
+        statuses: 0,
+        live_words: 0,
+        cells: 0,
+        bus: 0,
+        port_id: 0,
+        conventional: false,
+        entries: [SlotEntry::BLANK; MOST_SLOTS].map(|_| entry(random)),
+        defaults: Vec::new(),
+    }
+}

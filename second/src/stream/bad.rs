@@ -27,10 +27,11 @@ pub enum Bad {
     Set,
     MessageRoom,
     MessageLength,
+    SheetLength,
     Cut,
 }
 
-pub const WAYS: [(Bad, &str); 26] = [
+pub const WAYS: [(Bad, &str); 27] = [
     (Bad::NoVersion, "no version at all"),
     (Bad::Version, "another version"),
     (Bad::Statuses, "more than 32 statuses"),
@@ -56,5 +57,6 @@ pub const WAYS: [(Bad, &str); 26] = [
     (Bad::Set, "a set other than 0 before Q-12"),
     (Bad::MessageRoom, "more room than 40 bytes for a message"),
     (Bad::MessageLength, "a message of more than 40 bytes"),
+    (Bad::SheetLength, "a sheet of more than 4,096 bytes"),
     (Bad::Cut, "a cut stream"),
 ];

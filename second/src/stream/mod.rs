@@ -7,9 +7,9 @@ mod write;
 
 pub use bad::{Bad, WAYS};
 pub use read::{Source, Trouble};
-pub use write::{put_case, put_image, put_image_with};
+pub use write::{put_case, put_image, put_image_with, put_taken};
 
-use crate::setup::Setup;
+use crate::setup::{Setup, MOST_SLOTS};
 use crate::state::State;
 
 pub const VERSION: u8 = 2;
@@ -46,6 +46,7 @@ pub enum Operation {
         room: u8,
     },
     ReadMessage(Vec<u8>),
+    Sheet(Vec<u8>),
 }
 
 #[derive(Clone, PartialEq, Eq, Debug)]
@@ -53,6 +54,9 @@ pub struct Case {
     pub setup: Setup,
     pub operations: Vec<Operation>,
 }
+
+/// How long a sheet's output is.
+pub const TAKEN_BYTES: usize = 3 + 8 * MOST_SLOTS;
 
 /// How long a state image of this set-up is.
 pub fn image_length(setup: &Setup) -> usize {

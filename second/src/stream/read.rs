@@ -182,6 +182,7 @@ impl<R: Read> Source<R> {
             0x01 => Operation::SetUp,
             0x02 => self.feed()?,
             0x03 => Operation::Lend { state: Box::new(self.image(setup)?), noise: 0 },
+            0x04 => self.sheet()?,
             0x0D => self.message_to_write()?,
             0x0E => self.message_to_read()?,
             _ => return Err(Trouble::BadCase(Bad::NotLanded)),
@@ -192,6 +193,12 @@ impl<R: Read> Source<R> {
         let room = self.length(MOST_BYTES, Bad::Room)? as u16;
         let length = self.length(MOST_BYTES, Bad::Input)?;
         Ok(Operation::Feed { room, input: self.bytes(length)? })
+    }
+
+    fn sheet(&mut self) -> Read1<Operation> {
+        let refused = usize::from(self.fault == Fault::SheetOf4096Refused);
+        let length = self.length(MOST_BYTES - refused, Bad::SheetLength)?;
+        Ok(Operation::Sheet(self.bytes(length)?))
     }
 
     fn message_to_write(&mut self) -> Read1<Operation> {

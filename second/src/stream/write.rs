@@ -4,6 +4,7 @@ use super::noise::Noise;
 use super::{Case, Operation};
 use crate::landed::NO_PARENT;
 use crate::setup::{Setup, SlotEntry};
+use crate::sheets::Taken;
 use crate::state::{Cause, Port, State, Status, MOST_CARRIED};
 
 fn put_words(words: &[u32], out: &mut Vec<u8>) {
@@ -13,10 +14,14 @@ fn put_words(words: &[u32], out: &mut Vec<u8>) {
     }
 }
 
-fn put_entry(entry: &SlotEntry, out: &mut Vec<u8>) {
+fn put_codes(entry: &SlotEntry, out: &mut Vec<u8>) {
     for code in entry.codes() {
         out.extend(code.0.to_le_bytes());
     }
+}
+
+fn put_entry(entry: &SlotEntry, out: &mut Vec<u8>) {
+    put_codes(entry, out);
     out.push(u8::from(entry.sends_frs));
     out.push(entry.edition);
     out.extend(entry.v.0.to_le_bytes());
@@ -61,6 +66,20 @@ fn put_operation(operation: &Operation, out: &mut Vec<u8>) {
             out.extend([0x0E, bytes.len() as u8]);
             out.extend(bytes);
         }
+        Operation::Sheet(text) => {
+            out.push(0x04);
+            out.extend((text.len() as u16).to_le_bytes());
+            out.extend(text);
+        }
+    }
+}
+
+/// Writes what came of a sheet: number, line, and the four codes of each entry.
+pub fn put_taken(taken: &Taken, out: &mut Vec<u8>) {
+    out.push(taken.number);
+    out.extend(taken.line.to_le_bytes());
+    for entry in &taken.entries {
+        put_codes(entry, out);
     }
 }
 

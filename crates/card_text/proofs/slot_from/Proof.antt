@@ -52,7 +52,7 @@ returns c =
     let at : 2052 + args .n * 5 ≡ entryPlace (args .n) 0 = omega arith in
     λ i.
     record {
-      reset = (two .before .code-from .ensures ∙ ap (λ (place : ℕ). codeFrom place (now (args .sheet))) at) i;
+      reset = (two .before .code-from .ensures ∙ ap (λ (place : ℕ). codeFrom place (now (args .table))) at) i;
       «dl_up» = two .code-from2 .ensures i;
       flr = three .code-from3 .ensures i;
       d3hot = four .code-from4 .ensures i;

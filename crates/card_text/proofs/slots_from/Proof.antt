@@ -14,10 +14,10 @@ use Rattle.card_text.proofs.slots_from.Statement.{statement}
 use Rattle.card_text.proofs.slots_from.Tie as tie
 
 abbrev Inv-loop : tie.InvT-loop
-Inv-loop sheet entries₀ n₀ entries n = (n ≤ 32) × (length entries ≡ 32) × (take n entries ≡ slotsFrom sheet n)
+Inv-loop table entries₀ n₀ entries n = (n ≤ 32) × (length entries ≡ 32) × (take n entries ≡ slotsFrom table n)
 
 abbrev μ-loop : tie.MeasureT-loop
-μ-loop sheet entries₀ n₀ entries n = 32 - n
+μ-loop table entries₀ n₀ entries n = 32 - n
 
 slot-from-requires : tie.Need-slot-from-requires Inv-loop μ-loop
 slot-from-requires c κs = search needs
@@ -58,9 +58,9 @@ loop-again c =
 returns : tie.Need-returns Inv-loop μ-loop
 returns c =
     let l = c .before .loop in
-    let sheet : List ℕ = now (c .before .before .before .before .args .sheet) in
+    let table : List ℕ = now (c .before .before .before .before .args .table) in
     let all : l .n ≡ 32 = omega arith in
-    sym (take-all (l .n) (l .entries) (omega arith)) ∙ l .inv .2 ∙ ap (slotsFrom sheet) all
+    sym (take-all (l .n) (l .entries) (omega arith)) ∙ l .inv .2 ∙ ap (slotsFrom table) all
 
 pub slots-from-spec : {M : Type 1} → statement M
 slots-from-spec =

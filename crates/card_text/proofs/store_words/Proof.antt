@@ -13,13 +13,13 @@ use Rattle.card_text.proofs.store_words.Tie as tie
 
 -- word i
 abbrev wordAt : List ℕ → ℕ → ℕ
-wordAt sheet i = namedBelow 4294967296 i sheet
+wordAt table i = namedBelow 4294967296 i table
 
 abbrev Inv-loop : tie.InvT-loop
-Inv-loop sheet words₀ n i₀ words i = (i ≤ length words₀) × (length words ≡ length words₀) × (words ≡ done i (wordAt sheet) words₀)
+Inv-loop table words₀ n i₀ words i = (i ≤ length words₀) × (length words ≡ length words₀) × (words ≡ done i (wordAt table) words₀)
 
 abbrev μ-loop : tie.MeasureT-loop
-μ-loop sheet words₀ n i₀ words i = length words₀ - i
+μ-loop table words₀ n i₀ words i = length words₀ - i
 
 fine-requires : tie.Need-fine-requires Inv-loop μ-loop
 fine-requires c κs = search needs
@@ -49,7 +49,7 @@ loop-again c =
     let i : ℕ = l .i in (
       omega arith,
       length-set (l .words) i (c .word-from .result) ∙ l .inv .1,
-      ap₂ (λ (ws : List ℕ) (w : ℕ). set ws i w) (l .inv .2) (c .word-from .ensures) ∙ done-more i (wordAt (now (args .sheet))) (now (args .words)) (omega arith),
+      ap₂ (λ (ws : List ℕ) (w : ℕ). set ws i w) (l .inv .2) (c .word-from .ensures) ∙ done-more i (wordAt (now (args .table))) (now (args .words)) (omega arith),
     )
 
 same-length : tie.Need-same-length Inv-loop μ-loop
@@ -63,7 +63,7 @@ returns c =
     let words : List ℕ = now (args .words) in
     let e : l .i ≡ length words = omega arith in
     simp (sym (c .before .before .before .fine .ensures) ∙ c .before .before .if1 .taken)
-    (l .inv .2 ∙ ap (λ (k : ℕ). done k (wordAt (now (args .sheet))) words) e ∙ done-all (length words) (wordAt (now (args .sheet))) words refl)
+    (l .inv .2 ∙ ap (λ (k : ℕ). done k (wordAt (now (args .table))) words) e ∙ done-all (length words) (wordAt (now (args .table))) words refl)
 
 returns-2 : tie.Need-returns-2 Inv-loop μ-loop
 unfolding storedWords

@@ -14,14 +14,14 @@ use Rattle.card_text.proofs.lines.read_lines.Statement.{statement}
 use Rattle.card_text.proofs.lines.read_lines.Tie as tie
 
 abbrev Inv-loop : tie.InvT-loop
-Inv-loop text sheet₀ at₀ count₀ sheet at count =
+Inv-loop text table₀ at₀ count₀ table at count =
     (at ≤ length text)
     × (count ≤ at)
-    × (length sheet ≡ length sheet₀)
-    × (readLines count (linesOf (drop at text)) sheet ≡ readLines 0 (linesOf text) sheet₀)
+    × (length table ≡ length table₀)
+    × (readLines count (linesOf (drop at text)) table ≡ readLines 0 (linesOf text) table₀)
 
 abbrev μ-loop : tie.MeasureT-loop
-μ-loop text sheet₀ at₀ count₀ sheet at count = length text - at
+μ-loop text table₀ at₀ count₀ table at count = length text - at
 
 loop-holds : tie.Need-loop-holds Inv-loop μ-loop
 loop-holds c = (omega arith, omega arith, refl, refl)
@@ -74,7 +74,7 @@ loop-again c =
     let reached = ended .before .before in
     let text : List ℕ = now (reached .before .before .before .args .text) in
     let at : ℕ = reached .loop .at in
-    let sheet : List ℕ = reached .loop .sheet in
+    let table : List ℕ = reached .loop .table in
     let rest : ℕ = nextLine (runEnd inLine at text) (length text) in
     let next : c .next-line .result ≡ rest =
     next-is (ended .line-end .result) (length text) (c .next-line .result) at text (c .next-line .ensures) (ended .line-end .ensures) refl in (
@@ -83,10 +83,10 @@ loop-again c =
       search needs,
       rw next
           (sym
-          (read-fine (reached .loop .count) (part at (runEnd inLine at text) text) (linesOf (drop rest text)) sheet
-          (called .enter-line .ensures ∙ ap (λ (k : ℕ). enterLine (part at k text) sheet) (ended .line-end .ensures))
+          (read-fine (reached .loop .count) (part at (runEnd inLine at text) text) (linesOf (drop rest text)) table
+          (called .enter-line .ensures ∙ ap (λ (k : ℕ). enterLine (part at k text) table) (ended .line-end .ensures))
           (sym (fined .fine .ensures) ∙ c .before .if1 .taken))
-          ∙ sym (ap (λ (ls : List (List ℕ)). readLines (reached .loop .count) ls sheet) (lines-at text at (omega arith)))
+          ∙ sym (ap (λ (ls : List (List ℕ)). readLines (reached .loop .count) ls table) (lines-at text at (omega arith)))
           ∙ reached .loop .inv .3),
     )
 
@@ -101,13 +101,13 @@ returns c =
     let reached = ended .before .before in
     let text : List ℕ = now (reached .before .before .before .args .text) in
     let at : ℕ = reached .loop .at in
-    let sheet : List ℕ = reached .loop .sheet in
+    let table : List ℕ = reached .loop .table in
     let rest : ℕ = nextLine (runEnd inLine at text) (length text) in
     sym
-    (read-refused (reached .loop .count) (part at (runEnd inLine at text) text) (linesOf (drop rest text)) sheet
-    (called .enter-line .ensures ∙ ap (λ (k : ℕ). enterLine (part at k text) sheet) (ended .line-end .ensures))
+    (read-refused (reached .loop .count) (part at (runEnd inLine at text) text) (linesOf (drop rest text)) table
+    (called .enter-line .ensures ∙ ap (λ (k : ℕ). enterLine (part at k text) table) (ended .line-end .ensures))
     (sym (fined .fine .ensures) ∙ c .if1 .left))
-    ∙ sym (ap (λ (ls : List (List ℕ)). readLines (reached .loop .count) ls sheet) (lines-at text at (omega arith)))
+    ∙ sym (ap (λ (ls : List (List ℕ)). readLines (reached .loop .count) ls table) (lines-at text at (omega arith)))
     ∙ reached .loop .inv .3
 
 same-length-2 : tie.Need-same-length-2 Inv-loop μ-loop
@@ -116,7 +116,7 @@ same-length-2 c = c .before .loop .inv .2
 returns-2 : tie.Need-returns-2 Inv-loop μ-loop
 returns-2 c =
     let l = c .before .loop in
-    sym (read-all (l .count) (now (c .before .before .before .before .args .text)) (l .sheet) (l .at) (c .loop-test .left)) ∙ l .inv .3
+    sym (read-all (l .count) (now (c .before .before .before .before .args .text)) (l .table) (l .at) (c .loop-test .left)) ∙ l .inv .3
 
 pub read-lines-spec : {M : Type 1} → statement M
 read-lines-spec =

@@ -6,10 +6,10 @@ use Rattle.cases.proofs.running.run_operations.Statement.{statement}
 use Rattle.cases.proofs.running.run_operations.Tie as tie
 
 abbrev Inv-loop : tie.InvT-loop
-Inv-loop setup lent live₀ defaults cells₀ turn₀ turns₀ live cells turn turns = (length live ≡ length live₀) × (length cells ≡ length cells₀)
+Inv-loop lent live₀ defaults cells₀ turn₀ turns₀ live cells turn turns = (length live ≡ length live₀) × (length cells ≡ length cells₀)
 
 abbrev μ-loop : tie.MeasureT-loop
-μ-loop setup lent live₀ defaults cells₀ turn₀ turns₀ live cells turn turns = turns
+μ-loop lent live₀ defaults cells₀ turn₀ turns₀ live cells turn turns = turns
 
 first-turn-requires : tie.Need-first-turn-requires Inv-loop μ-loop
 first-turn-requires c κs = search needs

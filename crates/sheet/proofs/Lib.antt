@@ -1,0 +1,4 @@
+pub mod Numbers
+pub mod Units
+pub mod Fields
+pub mod Rests

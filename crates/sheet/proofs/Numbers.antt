@@ -1,0 +1,129 @@
+-- Digits read one by one, how far they reach, and a number with the space after it.
+use mathlib.Core.Path.{_≡_, refl, sym, ap, _∙_}
+use mathlib.Core.Bool.{Bool, true, false, _&&_, cond, false≢true}
+use mathlib.Core.List.{List, [], _∷_}
+use Prim.Native.Nat.{ℕ, zero, suc, _+_, _-_, _*_, _^_, _≤_, _<_}
+use native.Mathlib.Numerals.{add-one}
+use native.Mathlib.Omega.{arith}
+use lib.Dec.{leb, ltb, eqb, leb→le}
+use lib.ListN.{length, getD, drop, length-drop, drop-of-length-le, List·getD-eq-default}
+use lib.Seq.{drop-cons}
+use borrow.Author.Tests.{leb-true, leb-false, ltb-true, ltb-false, eqb-true, lt-ltb}
+use Rattle.bits.proofs.Choices.{when-true, when-false, either-way}
+use Rattle.bits.proofs.Tests.{all-at, both-right, split}
+use Rattle.text_fields.specs.Text.{digitOf}
+use Rattle.text_fields.proofs.Numbers.{scaled}
+use Rattle.sheet_grammar.specs.declared.Digits.{Digits}
+use Rattle.sheet_grammar.specs.declared.NumberRead.{NumberRead}
+use Rattle.sheet_grammar.specs.Layout.{isDigit, space, mostDigits, byteAt, digitsFrom, digitsAt, numberFits, nextPlace, numberAt}
+
+-- so many digits, which are such a number
+abbrev pub counted : (count number : ℕ) → Digits
+counted count number = record { count = count; number = number }
+
+-- ---- one digit more
+
+and-rest : (a b : Bool) → a ≡ true → (a && b) ≡ false → b ≡ false
+and-rest true b k e = e
+and-rest false b k e = absurd (false≢true k)
+
+none : (more count number : ℕ) → digitsFrom more count number [] ≡ counted count number
+unfolding digitsFrom
+none zero count number = refl
+none (suc more) count number = refl
+
+module _ (s : List ℕ) (i count number : ℕ) where
+  from : i < length s → count ≤ 10 → digitsFrom (11 - count) count number (drop i s)
+      ≡ cond (isDigit (getD s i 0)) (digitsFrom (10 - count) (suc count) (number * 10 + digitOf false (getD s i 0)) (drop (suc i) s)) (counted count number)
+  unfolding digitsFrom
+  from h k =
+      let e : 11 - count ≡ suc (10 - count) = omega arith in
+      ap (λ (m : ℕ). digitsFrom m count number (drop i s)) e ∙ ap (digitsFrom (suc (10 - count)) count number) (drop-cons s i 0 h)
+
+  full : 10 < count → digitsFrom (11 - count) count number (drop i s) ≡ counted count number
+  unfolding digitsFrom
+  full k = let e : 11 - count ≡ zero = omega arith in ap (λ (m : ℕ). digitsFrom m count number (drop i s)) e
+
+  -- a digit
+  pub digit-passes : i < length s → count ≤ 10 → digitOf false (getD s i 0) < 16 → digitsFrom (11 - count) count number (drop i s)
+      ≡ digitsFrom (11 - (count + 1)) (count + 1) (number * 10 + digitOf false (getD s i 0)) (drop (i + 1) s)
+  digit-passes h k d =
+      let e : 10 - count ≡ 11 - suc count = omega arith in
+      rw (add-one count, add-one i)
+      (from h k ∙ when-true (isDigit (getD s i 0)) _ _ (lt-ltb (digitOf false (getD s i 0)) 16 d)
+      ∙ ap (λ (m : ℕ). digitsFrom m (suc count) (number * 10 + digitOf false (getD s i 0)) (drop (suc i) s)) e)
+
+  -- eleven digits, or a byte that is none
+  pub digit-stops : i < length s → (leb count 10 && ltb (digitOf false (getD s i 0)) 16) ≡ false
+      → counted count number ≡ digitsFrom (11 - count) count number (drop i s)
+  digit-stops h e =
+      sym
+      (split (leb count 10)
+      (λ k. from h (leb-true count 10 k) ∙ when-false (isDigit (getD s i 0)) _ _ (and-rest (leb count 10) (ltb (digitOf false (getD s i 0)) 16) k e))
+      (λ k. full (leb-false count 10 k)))
+
+  -- the end
+  pub digits-end : length s ≤ i → counted count number ≡ digitsFrom (11 - count) count number (drop i s)
+  digits-end h = sym (ap (digitsFrom (11 - count) count number) (drop-of-length-le s h) ∙ none (11 - count) count number)
+
+-- ---- the number has room
+
+powers : ℕ → Bool
+powers i = leb (16 ^ i) 1099511627776
+
+power-most : (i : ℕ) → i < 11 → 16 ^ i ≤ 1099511627776
+unfolding powers
+power-most i h = leb→le _ _ (all-at 11 powers tt i h)
+
+pub number-room : (v i d : ℕ) → v < 16 ^ i → i ≤ 10 → d < 16 → v * 10 + d < 17592186044416
+number-room v i d h k l = omega (arith, scaled false v (16 ^ i) d h l, power-most i (omega arith))
+
+-- ---- how far digits reach
+
+digits-most : (more count number : ℕ) (s : List ℕ) → digitsFrom more count number s .count ≤ count + length s
+unfolding digitsFrom
+digits-most zero count number s = omega arith
+digits-most (suc more) count number [] = omega arith
+digits-most (suc more) count number (b ∷ s) =
+    either-way (λ (d : Digits). d .count ≤ count + suc (length s)) (isDigit b) _ _
+    (λ e. omega (arith, digits-most more (suc count) (number * 10 + digitOf false b) s)) (λ e. omega arith)
+
+-- not past what the place and the text's end are below
+pub digits-within : (most at : ℕ) (s : List ℕ) → at ≤ most → length s ≤ most → at + digitsAt at s .count ≤ most
+digits-within most at s h k = omega (arith, digits-most (suc mostDigits) 0 0 (drop at s), length-drop at s)
+
+-- a byte other than 0 stands in the text
+pub byte-below : (s : List ℕ) (i : ℕ) → 1 ≤ getD s i 0 → i < length s
+byte-below s i h =
+    split (ltb i (length s)) (ltb-true i (length s))
+    (λ t. let z : getD s i 0 ≡ 0 = List·getD-eq-default s 0 (ltb-false i (length s) t) in absurd (omega arith))
+
+-- ---- a number
+
+-- with the space after it, or without
+numberWith : (at : ℕ) → Digits → Bool → NumberRead
+numberWith at d fits = record { fits = fits; number = d .number; next = nextPlace at (d .count) fits }
+
+numberBy : (at : ℕ) (s : List ℕ) → Digits → NumberRead
+numberBy at s d = numberWith at d (numberFits (d .count) (byteAt (at + d .count) s))
+
+module _ (at : ℕ) (s : List ℕ) (d : Digits) (is : d ≡ digitsAt at s) {b : ℕ} {fits : Bool} (byte : b ≡ byteAt (at + d .count) s) (tested : fits ≡ numberFits (d .count) b) where
+  by : numberWith at d fits ≡ numberAt at s
+  unfolding numberAt numberBy numberWith
+  by = ap (numberWith at d) (tested ∙ ap (numberFits (d .count)) byte) ∙ ap (numberBy at s) is
+
+  pub number-fits : fits ≡ true → record { fits = true; number = d .number; next = at + d .count + 1 } ≡ numberAt at s
+  unfolding numberWith nextPlace
+  number-fits e = rw (add-one (at + d .count)) (ap (numberWith at d) (sym e) ∙ by)
+
+  pub number-departs : fits ≡ false → {next : ℕ} → next ≡ nextPlace at (d .count) false → record { fits = false; number = d .number; next = next } ≡ numberAt at s
+  unfolding numberWith
+  number-departs e f = ap (λ (n : ℕ). record { fits = false; number = d .number; next = n }) f ∙ ap (numberWith at d) (sym e) ∙ by
+
+  -- after a number that fits there is a byte
+  pub space-below : fits ≡ true → at + d .count < length s
+  unfolding numberFits
+  space-below e =
+      let t : (leb 1 (d .count) && leb (d .count) mostDigits && eqb b space) ≡ true = sym tested ∙ e in
+      let is-space : b ≡ space = eqb-true b space (both-right (leb 1 (d .count) && leb (d .count) mostDigits) (eqb b space) t) in
+      byte-below s (at + d .count) (omega (arith, byte, is-space))

@@ -1,0 +1,9 @@
+pub mod Fields
+pub mod Lines
+pub mod Steps
+pub mod Exactly
+pub mod Orders
+pub mod Results
+pub mod Numbers
+pub mod Lengths
+pub mod Examples

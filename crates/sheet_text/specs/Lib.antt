@@ -1,0 +1,5 @@
+pub mod Lines
+pub mod Cards
+pub mod Doubts
+pub mod Refused
+pub mod CodeLines

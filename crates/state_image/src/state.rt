@@ -225,8 +225,8 @@ fn put_dev(bytes: &mut [u8], dev: Dev)
     put_two(&mut *bytes, 26, dev.queue.depth);
 }
 
-// A carried byte, and 0 past the count.
-fn shown(i: usize, count: usize, b: u8) -> u8
+// A byte, and 0 past the count.
+pub fn shown(i: usize, count: usize, b: u8) -> u8
     ensures { λ r. ⌜ r ≡ cond (ltb i count) b 0 ⌝ }
 {
     if i < count { b } else { 0 }

@@ -1,0 +1,15 @@
+pub mod Advancing
+pub mod AdvancesExactly
+pub mod Standing
+pub mod Stepping
+pub mod Same
+pub mod Reasons
+pub mod Joining
+pub mod Kept
+pub mod Refusing
+pub mod Theorem
+pub mod Steps
+pub mod Entries
+pub mod Matching
+pub mod Reaching
+pub mod Examples

@@ -1,0 +1,10 @@
+pub mod Advances
+pub mod Capture
+pub mod Replay
+pub mod Lent
+pub mod Calls
+pub mod Ending
+pub mod Cutting
+pub mod AsOneTrace
+pub mod Exactly
+pub mod inner

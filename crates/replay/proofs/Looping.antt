@@ -1,0 +1,207 @@
+-- What holds at the head of replay's loop, that a step keeps it, and what its end gives.
+use Prim.Native.Nat.{ℕ, _+_, _-_, _≤_, _<_}
+use mathlib.Core.Path.{_≡_, refl, ap, sym, _∙_, subst}
+use mathlib.Core.Bool.{Bool, true, false}
+use mathlib.Core.List.{List, [], _++_, append-nil}
+use native.Mathlib.Omega.{arith}
+use native.Mathlib.Nat.{sub-zero}
+use lib.ListN.{length, take, drop, length-append, take-append-drop, length-drop}
+use lib.Seq.{drop-drop, length-take-le, take-length, paste, take-paste, drop-paste, length-paste}
+use lib.Dec.{eqb}
+use Rattle.trace.specs.Format.{if_then_else_, Bytes, pad, longest, next}
+use Rattle.trace.specs.Bench.{Device, Ran}
+use Rattle.trace.specs.Lent.{Left}
+use Rattle.trace.specs.inner.Gathered.{endNumber, endCount}
+use Rattle.trace.proofs.Tests.{if-cases, if-true, if-false}
+use Rattle.trace.proofs.Records.{carrying}
+use Rattle.trace.proofs.Loop.{end-few}
+use Rattle.readiness.specs.declared.Status.{Status}
+use Rattle.readiness.specs.declared.Setup.{Setup}
+use Rattle.readiness.specs.declared.Dev.{Dev}
+use Rattle.records.specs.State.{State, state}
+use Rattle.records.specs.Answer.{answerBytes}
+use Rattle.records.specs.Run.{run}
+use Rattle.records.specs.Device.{device}
+use Rattle.capture.specs.declared.Replay.{Replay}
+use Rattle.capture.specs.Replay.{Progress, Replayed, begins, still, later, replayOpen}
+use Rattle.capture.specs.Lent.{progressIn, replayOf, leaves}
+use Rattle.capture.proofs.Steps.{tookKind, later-zero, later-later}
+use Rattle.demand3.specs.Held.{held, opened, heldOf}
+use Rattle.demand3.specs.Feeding.{bench}
+use Rattle.demand3.proofs.Good.{Good, good-keeps}
+use Rattle.feed.specs.inner.Calls.{carriesOn}
+use Rattle.feed.specs.inner.Turns.{TakesTurn}
+use Rattle.feed.proofs.Parts.{ran-bytes}
+use Rattle.replay_rules.specs.Replaying.{HeldWith, heldWith}
+use Rattle.replay_state.specs.inner.Moves.{Tidy}
+use Rattle.replay.specs.declared.Step.{Step}
+use Rattle.replay.specs.declared.ReplayedPort.{ReplayedPort}
+use Rattle.replay.specs.inner.Steps.{stepOf}
+use Rattle.replay.specs.inner.Calls.{Between, tookKindOf, endsAt, endsLeft}
+use Rattle.replay.proofs.NextStep.{take-few, Runs, leftAt, endAt, Halts, Does, does-step}
+
+-- what is left of a call, with the statuses as a list
+abbrev pub leftOf : ReplayedPort → (statuses : List Status) (live cells answers : List ℕ) → Left HeldWith
+leftOf x statuses live cells answers =
+    record { number = x .number; consumed = x .consumed; written = x .written; held = heldWith (held (x .port) statuses live cells) (x .replay); answers = answers }
+
+-- where the kind byte is consumed, its stamp is the earlier one
+took-by : (r : Replay) → Tidy r → (t : Bool) → (if t then r else replayOf (begins (progressIn r))) ≡ replayOf (if t then progressIn r else begins (progressIn r))
+took-by r e true = e
+took-by r e false = refl
+
+took : (r : Replay) → Tidy r → (m : ℕ) → tookKindOf r (m - 0) ≡ replayOf (tookKind (progressIn r) m)
+took r e m = ap (tookKindOf r) (sub-zero m) ∙ took-by r e (eqb m 0)
+
+-- the call began in the state s₀, with q₀ in hand and nothing carried; `room` is the slice for answers as it was lent
+module _ (k : Setup) (defaults : List ℕ) (input room : List ℕ) (s₀ : State) (q₀ : Progress) where
+  abbrev D : Device State
+  D = device k defaults
+
+  abbrev pub call : Replayed State
+  call = replayOpen D (carrying s₀ []) q₀ (length room) input
+
+  -- at the head, with `at` bytes consumed and w bytes written
+  pub record Head (answers : List ℕ) (dev : Dev) (statuses : List Status) (live cells : List ℕ) (r : Replay) (at w : ℕ) : Type 0 where
+    pub good : Good k defaults s₀ (state dev statuses live cells)
+    pub bytes : Bytes input
+    pub at-in : at ≤ length input
+    pub w-in : w ≤ length room
+    pub long : length answers ≡ length room
+    pub between : Between r
+    pub so-far : call ≡ later at (take w answers) (replayOpen D (carrying (state dev statuses live cells) []) (progressIn r) (length room - w) (drop at input))
+    pub beyond : drop w answers ≡ drop w room
+
+  -- AT THE START
+  pub starts : Good k defaults s₀ s₀ → Bytes input → (r : Replay) → Between r → progressIn r ≡ q₀ → Head room (s₀ .port) (s₀ .statuses) (s₀ .live) (s₀ .cells) r 0 0
+  starts g b r t e =
+      record {
+        good = g;
+        bytes = b;
+        at-in = omega arith;
+        w-in = omega arith;
+        long = refl;
+        between = t;
+        so-far =
+            (λ i. replayOpen D (carrying s₀ []) (sym e i) (sym (sub-zero (length room)) i) input)
+            ∙ sym (later-zero (replayOpen D (carrying s₀ []) (progressIn r) (length room - 0) input));
+        beyond = refl;
+      }
+
+module _ {k : Setup} {defaults input room : List ℕ} {s₀ : State} {q₀ : Progress} {answers : List ℕ} {dev : Dev} {statuses : List Status} {live cells : List ℕ} {r : Replay} {at w : ℕ}
+    (v : Head k defaults input room s₀ q₀ answers dev statuses live cells r at w) where
+  abbrev present : State
+  present = state dev statuses live cells
+
+  abbrev pub step : Step
+  step = stepOf (progressIn r) (length answers - w) at input
+
+  same-room : length answers - w ≡ length room - w
+  same-room = ap (λ (n : ℕ). n - w) (v .long)
+
+  does : Does k defaults present input (v .bytes) (progressIn r) (length room - w) at step
+  does =
+      subst (λ (n : ℕ). Does k defaults present input (v .bytes) (progressIn r) (length room - w) at (stepOf (progressIn r) n at input)) (sym same-room)
+      (does-step k defaults present input (v .bytes) (progressIn r) (length room - w) at
+      (omega (arith, take-few (r .«stamp_len») (r .stamp), v .between .few)) (v .between .answered) (v .at-in))
+
+  pub runs : step .runs ≡ true → Runs k defaults present input (v .bytes) (progressIn r) (length room - w) at step
+  runs e = does .0 e
+
+  pub ends : step .runs ≡ false → Halts k defaults present input (v .bytes) (progressIn r) (length room - w) at step
+  ends e = does .1 e
+
+  -- A RECORD'S TURN
+  pub turned : step .runs ≡ true → (dev′ : Dev) (statuses′ : List Status) (live′ cells′ answers′ : List ℕ)
+      → TakesTurn k defaults present (step .«record») answers w (state dev′ statuses′ live′ cells′) answers′
+      → Head k defaults input room s₀ q₀ answers′ dev′ statuses′ live′ cells′ (step .replay) (step .at) (w + 8)
+  turned e dev′ statuses′ live′ cells′ answers′ x =
+      let d = runs e in
+      let y = x (v .good .kept .sound) (v .good .kept .fits) in
+      let t = state dev′ statuses′ live′ cells′ in
+      let a = answerBytes (run k defaults present (step .«record») .reply) in
+      let z : _≡_ {A = Ran State} (record { state = t; answer = a }) (device k defaults .run present (d .whole)) =
+      ran-bytes k defaults present t a (step .«record») (pad longest (d .whole)) (d .whole) (d .item) refl (y .state) refl in
+      let a8 : length a ≡ 8 = ap (λ (u : Ran State). length (u .answer)) z ∙ device k defaults .eight present (d .whole) in
+      let ta : take 8 a ≡ a = rw (← a8) (take-length a) in
+      let n : length room - w - 8 ≡ length room - (w + 8) = omega arith in
+      let m : at + (step .at - at) ≡ step .at = omega (arith, d .from) in
+      record {
+        good = subst (Good k defaults s₀) (sym (ap (λ (u : Ran State). u .state) z)) (good-keeps k defaults s₀ present (d .whole) (d .is) (d .bytes) (v .good));
+        bytes = v .bytes;
+        at-in = d .to;
+        w-in = omega (arith, d .room);
+        long = ap length (y .answer) ∙ length-paste answers w a 8 (omega (arith, v .long, v .w-in, d .room)) (omega arith) ∙ v .long;
+        between = d .after;
+        so-far =
+            v .so-far
+            ∙ ap (later at (take w answers)) (d .goes)
+            ∙ later-later at (step .at - at) (take w answers) (device k defaults .run present (d .whole) .answer)
+            (replayOpen (device k defaults) (carrying (device k defaults .run present (d .whole) .state) []) (progressIn (step .replay)) (length room - w - 8) (drop (step .at) input))
+            ∙ (λ i. later (m i) (take w answers ++ sym z i .answer) (replayOpen (device k defaults) (carrying (sym z i .state) []) (progressIn (step .replay)) (n i) (drop (step .at) input)))
+            ∙ ap (λ (l : List ℕ). later (step .at) l (replayOpen (device k defaults) (carrying t []) (progressIn (step .replay)) (length room - (w + 8)) (drop (step .at) input)))
+            (sym (ap (take (w + 8)) (y .answer) ∙ take-paste answers w a 8 (omega (arith, v .long, v .w-in, d .room)) (omega arith) ∙ ap (λ (l : List ℕ). take w answers ++ l) ta));
+        beyond =
+            ap (drop (w + 8)) (y .answer)
+            ∙ drop-paste answers w a 8 (omega (arith, v .long, v .w-in, d .room)) (omega arith)
+            ∙ sym (drop-drop 8 w answers)
+            ∙ ap (drop 8) (v .beyond)
+            ∙ drop-drop 8 w room;
+      }
+
+  -- THE CALL'S END: after `at` and w it comes to f, with no more answers
+  finish : (f : Replayed State) (x : ReplayedPort) → call k defaults input room s₀ q₀ ≡ later at (take w answers) f → f .answers ≡ []
+      → x .number ≡ f .number → x .consumed ≡ at + f .consumed → x .written ≡ w
+      → _≡_ {A = HeldWith} (heldWith (held (x .port) statuses live cells) (x .replay)) (record { port = heldOf (f .bench); replay = replayOf (f .progress) })
+      → leftOf x statuses live cells answers ≡ leaves (bench k defaults) (call k defaults input room s₀ q₀) room
+  finish f x e none n c u h =
+      let tw : length (take w answers) ≡ w = length-take-le w answers (omega (arith, v .long, v .w-in)) in
+      let a : take w answers ++ f .answers ≡ take w answers = ap (λ (l : List ℕ). take w answers ++ l) none ∙ append-nil (take w answers) in
+      let l : length (take w answers ++ f .answers) ≡ w = ap length a ∙ tw in
+      let y : answers ≡ (take w answers ++ f .answers) ++ drop (length (take w answers ++ f .answers)) room =
+      sym (take-append-drop w answers) ∙ (λ i. sym a i ++ (v .beyond ∙ ap (λ (j : ℕ). drop j room) (sym l)) i) in
+      _∙_ {A = Left HeldWith}
+      (λ i. record { number = n i; consumed = c i; written = (u ∙ sym l) i; held = h i; answers = y i })
+      (ap (λ (g : Replayed State). leaves (bench k defaults) g room) (sym e))
+
+  ends-so : step .runs ≡ false → call k defaults input room s₀ q₀ ≡ later at (take w answers) (later (step .at - at) [] (endAt k defaults present input (v .bytes) (progressIn r) (length room - w) at step))
+  ends-so e = v .so-far ∙ ap (later at (take w answers)) (ends e .goes)
+
+  -- with a number of its own
+  stopped : step .runs ≡ false → eqb (step .number) 0 ≡ false
+      → leftOf (record { number = step .number; consumed = step .at; written = w; port = opened dev; replay = step .replay }) statuses live cells answers
+      ≡ leaves (bench k defaults) (call k defaults input room s₀ q₀) room
+  stopped e z =
+      let f = still (step .number) (carrying present []) (progressIn (step .replay)) [] in
+      let c : step .at ≡ at + (step .at - at + 0) = omega (arith, ends e .from) in
+      finish (later (step .at - at) [] f) _
+      (ends-so e ∙ ap (λ (g : Replayed State). later at (take w answers) (later (step .at - at) [] g)) (if-false (eqb (step .number) 0) _ f z))
+      refl refl c refl (λ i. heldWith (held (opened dev) statuses live cells) (ends e .tidy i))
+
+  -- or what is left begins a record, or none
+  left-over : step .runs ≡ false → eqb (step .number) 0 ≡ true
+      → leftOf (endsLeft dev step input w) statuses live cells answers ≡ leaves (bench k defaults) (call k defaults input room s₀ q₀) room
+  left-over e z =
+      let rest = drop (step .at) input in
+      let m = endCount rest (next rest) in
+      let f = leftAt k defaults present input (v .bytes) (progressIn r) (length room - w) at step in
+      let c : step .at + (m - 0) ≡ at + (step .at - at + m) = omega (arith, ends e .from) in
+      let l : m ≡ length (take m rest) = sym (length-take-le m rest (end-few rest .1)) in
+      finish (later (step .at - at) [] f) _
+      (ends-so e ∙ ap (λ (g : Replayed State). later at (take w answers) (later (step .at - at) [] g)) (if-true (eqb (step .number) 0) f _ z))
+      refl refl c refl
+      (λ i. heldWith (held (record { dev = dev; carried = pad 16 (take m rest); «carried_len» = l i; broken = eqb (endNumber (next rest)) 31 }) statuses live cells)
+      (took (step .replay) (ends e .tidy) m i))
+
+  pub ended : step .runs ≡ false → leftOf (endsAt dev step input w) statuses live cells answers ≡ leaves (bench k defaults) (call k defaults input room s₀ q₀) room
+  ended e =
+      if-cases (λ (x : ReplayedPort). leftOf x statuses live cells answers ≡ leaves (bench k defaults) (call k defaults input room s₀ q₀) room)
+      (eqb (step .number) 0) (endsLeft dev step input w) _ (left-over e) (stopped e)
+
+  -- no more is consumed than is there, and no more written than there is room for
+  pub ended-few : step .runs ≡ false → (endsAt dev step input w .consumed ≤ length input) × (endsAt dev step input w .written ≤ length room)
+  ended-few e =
+      let rest = drop (step .at) input in
+      if-cases (λ (x : ReplayedPort). (x .consumed ≤ length input) × (x .written ≤ length room)) (eqb (step .number) 0) (endsLeft dev step input w) _
+      (λ _. (omega (arith, end-few rest .1, length-drop (step .at) input, ends e .to), v .w-in))
+      (λ _. (ends e .to, v .w-in))

@@ -1,0 +1,114 @@
+-- `replay::running::run_capture` meets its contract.
+-- Written by `tools/paths --write replay running/run_capture`.
+use Prim.Native.Nat.{ℕ}
+use native.Mathlib.Omega.{arith}
+use mathlib.Core.Path.{_≡_, sym, ap, _∙_}
+use lib.ListN.{length, take}
+use lib.Seq.{length-take-le}
+use denote.Ref.{now}
+use borrow.Author.Needs.{needs}
+use Rattle.trace.specs.Lent.{Left}
+use Rattle.readiness.specs.inner.Phases.{statusesIn}
+use Rattle.capture.specs.Lent.{progressIn}
+use Rattle.demand3.specs.Held.{carriedOf}
+use Rattle.execute.specs.inner.Lent.{stateIn}
+use Rattle.replay_rules.specs.Replaying.{HeldWith}
+use Rattle.replay.specs.declared.ReplayedPort.{ReplayedPort}
+use Rattle.replay.specs.inner.Calls.{comesTo}
+use Rattle.replay.proofs.Looping.{leftOf}
+use Rattle.replay.proofs.Joining.{no-record-yet}
+use Rattle.replay.proofs.running.run_capture.Statement.{statement}
+use Rattle.replay.proofs.running.run_capture.Tie as tie
+
+-- sixteen bytes are kept, of which the port carries some
+sixteen : (c : tie.Start) → length (c .args .port .carried) ≡ 16
+sixteen c = search needs
+
+long : (c : tie.Start) → length (carriedOf (c .args .port)) ≡ c .args .port .«carried_len»
+long c = length-take-le (c .args .port .«carried_len») (c .args .port .carried) (omega (arith, c .pre .1 .1 .1 .0, sixteen c))
+
+-- ---- with nothing carried
+run-entries-requires : tie.Need-run-entries-requires
+run-entries-requires c κs = search needs
+
+same-length : tie.Need-same-length
+same-length c = search needs
+
+same-length-2 : tie.Need-same-length-2
+same-length-2 c = search needs
+
+same-length-3 : tie.Need-same-length-3
+same-length-3 c = search needs
+
+same-length-4 : tie.Need-same-length-4
+same-length-4 c = search needs
+
+returns : tie.Need-returns
+returns c =
+    let a = c .before .before .before .before .before .before .before .before .before .before .before .before .before .before .before .before .before .before .before .before .before .args in
+    c .before .before .before .before .before .before .before .before .run-entries .ensures .0
+    ∙ ap (λ (n : ℕ). comesTo (a .setup) (now (a .defaults)) (stateIn (a .port .dev) (now (a .phases)) (now (a .live)) (now (a .cells))) (take n (a .port .carried)) (progressIn (a .begun)) (now (a .input)) (now (a .answers)))
+    (sym (c .before .before .before .before .before .before .before .before .before .before .before .before .before .before .if1 .taken))
+
+-- ---- with bytes carried
+slice-aggregate-whole-size : tie.Need-slice-aggregate-whole-size
+slice-aggregate-whole-size c = search needs
+
+whole-size-requires : tie.Need-whole-size-requires
+whole-size-requires c κs = let s = c .before .before .before .before .before .before .before .before .before in omega (arith, s .pre .1 .1 .1 .0, sixteen s)
+
+carried-on-requires : tie.Need-carried-on-requires
+carried-on-requires c κs = search needs
+
+-- that complete no record
+returns-2 : tie.Need-returns-2
+returns-2 c =
+    let s = c .before .before .before .before .before .before .before .before .before .before .before .before in
+    let a = s .args in
+    _∙_ {A = Left HeldWith}
+    (ap (λ (x : ReplayedPort). leftOf x (statusesIn (now (a .phases))) (now (a .live)) (now (a .cells)) (now (a .answers))) (c .carried-on .ensures))
+    (no-record-yet (a .setup) (now (a .defaults)) (a .port) (statusesIn (now (a .phases))) (now (a .live)) (now (a .cells)) (now (a .input)) (now (a .answers)) (a .begun)
+    (s .pre .1 .1 .0 .tidy) (s .pre .1 .1 .1 .1) (long s) (omega (arith, c .before .before .before .before .before .if1)) (sym (c .before .before .whole-size .ensures) ∙ c .before .if2 .taken))
+
+-- that begin a record, which is whole now
+run-joined-requires : tie.Need-run-joined-requires
+run-joined-requires c κs =
+    let s = c .before .before .before .before .before .before .before .before .before .before .before .before .before .before .before in
+    let p = s .pre .1 in
+    (s .pre .0, (p .0, (p .1 .0, ((omega (arith, c .before .before .before .before .before .before .before .before .if1), p .1 .1 .0, p .1 .1 .1), (omega (arith, c .before .before .before .before .if2), c .before .before .before .before .before .whole-size .ensures)))))
+
+same-length-5 : tie.Need-same-length-5
+same-length-5 c = search needs
+
+same-length-6 : tie.Need-same-length-6
+same-length-6 c = search needs
+
+same-length-7 : tie.Need-same-length-7
+same-length-7 c = search needs
+
+same-length-8 : tie.Need-same-length-8
+same-length-8 c = search needs
+
+returns-3 : tie.Need-returns-3
+returns-3 c = search needs
+
+pub run-capture-spec : {M : Type 1} → statement M
+run-capture-spec =
+    tie.close
+    (tie.spec
+    run-entries-requires
+    same-length
+    same-length-2
+    same-length-3
+    same-length-4
+    returns
+    slice-aggregate-whole-size
+    whole-size-requires
+    carried-on-requires
+    returns-2
+    run-joined-requires
+    same-length-5
+    same-length-6
+    same-length-7
+    same-length-8
+    returns-3)

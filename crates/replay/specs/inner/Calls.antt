@@ -1,0 +1,67 @@
+-- A call by its parts.
+use Prim.Native.Nat.{ℕ, _+_, _≤_}
+use mathlib.Core.Bool.{false}
+use mathlib.Core.Path.{_≡_}
+use mathlib.Core.List.{List}
+use lib.ListN.{length, drop}
+use lib.Dec.{eqb}
+use Rattle.trace.specs.Format.{if_then_else_}
+use Rattle.trace.specs.Lent.{Left}
+use Rattle.readiness.specs.declared.Setup.{Setup}
+use Rattle.readiness.specs.declared.Dev.{Dev}
+use Rattle.records.specs.declared.Port.{Port}
+use Rattle.records.specs.State.{State}
+use Rattle.records.specs.Device.{device}
+use Rattle.records.specs.Sound.{Sound, Fitting}
+use Rattle.records.specs.StaysSound.{SoundSetup}
+use Rattle.capture.specs.declared.Replay.{Replay}
+use Rattle.capture.specs.Advances.{due}
+use Rattle.capture.specs.Replay.{Progress, begins, replayOpen}
+use Rattle.capture.specs.Lent.{progressIn, replayOf, leaves}
+use Rattle.demand3.specs.Held.{opened}
+use Rattle.demand3.specs.Feeding.{bench}
+use Rattle.feed.specs.inner.Calls.{carriesOn}
+use Rattle.replay_state.specs.inner.Moves.{Tidy}
+use Rattle.replay_rules.specs.Replaying.{HeldWith}
+use Rattle.replay.specs.declared.Step.{Step}
+use Rattle.replay.specs.declared.ReplayedPort.{ReplayedPort}
+
+-- what a call relies on that no number stops: the set-up's codes, a sound state, and lengths that fit
+pub record Going (setup : Setup) (defaults : List ℕ) (s : State) : Type 0 where
+  pub codes : SoundSetup setup
+  pub sound : Sound setup s
+  pub fits : Fitting setup defaults s
+  pub perSlot : length (s .statuses) ≡ setup .slots
+
+-- the state of a replay between records, as a call leaves it: at most 4 stamp bytes, and no more advances answered than are due
+pub record Between (r : Replay) : Type 0 where
+  pub tidy : Tidy r
+  pub few : r .«stamp_len» ≤ 4
+  pub answered : r .answered ≤ length (due (progressIn r .earlier) (progressIn r .stamp))
+
+-- what a call comes to that no number stops, in the state s, with c carried
+abbrev pub comesTo : Setup → (defaults : List ℕ) → State → (c : List ℕ) → Progress → (input answers : List ℕ) → Left HeldWith
+comesTo setup defaults s c q input answers =
+    leaves (bench setup defaults) (replayOpen (device setup defaults) (record { state = s; carried = c; broken = false }) q (length answers) input) answers
+
+-- where the kind byte is consumed, its stamp is the earlier one
+abbrev pub tookKindOf : Replay → (consumed : ℕ) → Replay
+tookKindOf r consumed = if eqb consumed 0 then r else replayOf (begins (progressIn r))
+
+-- what is left of the input begins a record, or none
+abbrev pub endsLeft : Dev → Step → (input : List ℕ) → (w : ℕ) → ReplayedPort
+endsLeft dev step input w =
+    let x = carriesOn (opened dev) (drop (step .at) input) in
+    record { number = x .number; consumed = step .at + x .consumed; written = w; port = x .port; replay = tookKindOf (step .replay) (x .consumed) }
+
+-- THE END OF A CALL at a step that runs no record, with w bytes written
+abbrev pub endsAt : Dev → Step → (input : List ℕ) → (w : ℕ) → ReplayedPort
+endsAt dev step input w =
+    if eqb (step .number) 0
+    then endsLeft dev step input w
+    else record { number = step .number; consumed = step .at; written = w; port = opened dev; replay = step .replay }
+
+-- what a call gives with bytes carried, that completes no record
+abbrev pub carriedOn : Port → Replay → (input : List ℕ) → ReplayedPort
+carriedOn port r input =
+    let x = carriesOn port input in record { number = x .number; consumed = x .consumed; written = 0; port = x .port; replay = r }

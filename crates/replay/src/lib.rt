@@ -1,0 +1,172 @@
+// Replay of captures, by value over the lent slices: each entry's advances and its record run in their turn.
+pub mod running; // the entries of a call
+mod stepping; // what stands next in a call
+
+ghost use mathlib.Core.Path.{_≡_};
+ghost use mathlib.Core.List.{List};
+ghost use Prim.Native.Nat.{ℕ};
+ghost use lib.ListN.{length};
+ghost use Rattle.capture.specs.Lent.{stopsFirst};
+ghost use Rattle.demand3.specs.Held.{held, lentOf};
+ghost use Rattle.demand3.specs.Feeding.{bench};
+ghost use Rattle.set_up.specs.Lent.{heldIn};
+ghost use Rattle.replay_rules.specs.Replaying.{heldWith, replays};
+ghost use Rattle.replay.specs.Left.{left, leftInPlace};
+use capture::Replay;
+use readiness::Setup;
+use readiness::Status;
+use records::Port;
+use records::Record;
+use replay_state::matching::matches;
+use replay_state::stamps::tidy;
+use running::run_capture;
+use set_up::refusing::refusal;
+use settle::phases::in_numbers;
+use settle::phases::in_statuses;
+
+// What replay gives, beside the lent slices.
+pub struct Replayed {
+    pub number: u8,
+    pub consumed: usize,
+    pub written: usize,
+    pub port: Port,
+    pub statuses: [Status; 32],
+    pub replay: Replay,
+}
+
+// What replay gives where the statuses are changed in place, beside the lent slices.
+pub struct ReplayedPort {
+    pub number: u8,
+    pub consumed: usize,
+    pub written: usize,
+    pub port: Port,
+    pub replay: Replay,
+}
+
+// What stands next in a call, between records: a record that runs, an advance that is due or the next of the capture, with the state of the
+// replay after it and how far the input is consumed then; or the call's end, with its number, where 0 leaves it to the bytes that are left.
+pub struct Step {
+    pub runs: bool,
+    pub number: u8,
+    pub record: Record,
+    pub replay: Replay,
+    pub at: usize,
+}
+
+// The number that is given before a byte is looked at, or 0: 1 to 5, an ended replay's number, 31.
+fn stops(
+    setup: Setup,
+    port: Port,
+    phases: &[u64],
+    words: usize,
+    defaults: &[u32],
+    cells: &[u32],
+    state: Replay,
+) -> u8
+    ensures { λ r. ⌜ ((live : List ℕ) → length live ≡ words
+        → r ≡ stopsFirst (bench setup (now (defaults .entry))) (heldWith (heldIn port (now (phases .entry)) live (now (cells .entry))) state)) ⌝ }
+{
+    let no = refusal(setup, port, phases, words, defaults, cells);
+    if no != 0 && no != 31 {
+        return no;
+    }
+    let carried = port.carried;
+    if !matches(carried, port.carried_len, state) {
+        return 5;
+    }
+    if state.ended != 0 {
+        return state.ended;
+    }
+    no
+}
+
+// Replay where the statuses are numbers, three to a slot, which are changed in place: a refusal changes nothing.
+pub fn replay_in_place(
+    setup: Setup,
+    port: Port,
+    phases: &mut [u64],
+    state: Replay,
+    live: &mut [u32],
+    defaults: &[u32],
+    cells: &mut [u32],
+    input: &[u8],
+    answers: &mut [u8],
+) -> ReplayedPort
+    ensures { λ r. ⌜ leftInPlace r (now (phases .exit)) (now (live .exit)) (now (cells .exit)) (now (answers .exit))
+        ≡ replays setup (now (defaults .entry)) (heldWith (heldIn port (now (phases .entry)) (now (live .entry)) (now (cells .entry))) state) (now (input .entry)) (now (answers .entry)) ⌝ }
+{
+    let number = stops(setup, port, phases, live.len(), defaults, cells, state);
+    if number != 0 {
+        return ReplayedPort {
+            number: number,
+            consumed: 0,
+            written: 0,
+            port: port,
+            replay: state,
+        };
+    }
+    let table = registers::attributes();
+    run_capture(
+        &table,
+        setup,
+        port,
+        tidy(state),
+        phases,
+        live,
+        defaults,
+        cells,
+        input,
+        answers,
+    )
+}
+
+// REPLAY: a refusal changes nothing.
+pub fn replay(
+    setup: Setup,
+    port: Port,
+    statuses: [Status; 32],
+    lent: usize,
+    state: Replay,
+    live: &mut [u32],
+    defaults: &[u32],
+    cells: &mut [u32],
+    input: &[u8],
+    answers: &mut [u8],
+) -> Replayed
+    ensures { λ r. ⌜ left lent r (now (live .exit)) (now (cells .exit)) (now (answers .exit))
+        ≡ replays setup (now (defaults .entry)) (heldWith (held port (lentOf lent statuses) (now (live .entry)) (now (cells .entry))) state) (now (input .entry)) (now (answers .entry)) ⌝ }
+{
+    if 32 < lent {
+        return Replayed {
+            number: 1,
+            consumed: 0,
+            written: 0,
+            port: port,
+            statuses: statuses,
+            replay: state,
+        };
+    }
+    let mut phases = in_numbers(statuses);
+    let end = 3 * lent;
+    let x = replay_in_place(
+        setup,
+        port,
+        &mut phases[0..end],
+        state,
+        live,
+        defaults,
+        cells,
+        input,
+        answers,
+    );
+    let after = x.port;
+    let moved = x.replay;
+    Replayed {
+        number: x.number,
+        consumed: x.consumed,
+        written: x.written,
+        port: after,
+        statuses: in_statuses(phases),
+        replay: moved,
+    }
+}

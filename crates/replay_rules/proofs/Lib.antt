@@ -1,0 +1,2 @@
+pub mod GivenForNo
+pub mod OneReplay

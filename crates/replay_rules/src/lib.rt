@@ -1,0 +1,1 @@
+// No code: replay at the bench.

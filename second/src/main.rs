@@ -65,7 +65,7 @@ const USAGE: &str = "usage:
   second instructions [--only TRACE] [--records N]
   second memory [--records N]
   second trace NAME [--records N] CARD TRACE
-  second count proved|rust CARD TRACE PIECE";
+  second count proved|rust|replay CARD TRACE PIECE";
 
 /// Whether a command found everything in order, or why it could not run.
 type Verdict = Result<bool, String>;

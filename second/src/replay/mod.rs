@@ -8,7 +8,7 @@ mod stamps;
 mod tests;
 
 pub use matching::{broken_clauses, Clause, CLAUSES, NEVER_ALONE};
-pub use stamps::{Stamp, Step, Ticks, BACK};
+pub use stamps::{Stamp, Step, Ticks, BACK, NANOSECONDS_PER_TICK};
 
 use crate::bench::Bench;
 use crate::faults::Fault;

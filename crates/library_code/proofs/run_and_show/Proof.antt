@@ -1,4 +1,4 @@
--- `staticlib::run_and_show` meets its contract.
+-- `library_code::run_and_show` meets its contract.
 use Prim.Native.Nat.{ℕ, _*_, _≤_}
 use mathlib.Core.List.{_++_}
 use mathlib.Core.List.{List}
@@ -8,18 +8,18 @@ use lib.Seq.{sets}
 use lib.ListN.{length, take, drop, length-take}
 use borrow.Author.Needs.{needs}
 use Rattle.library_run.proofs.Laws.{lengths}
-use Rattle.staticlib.proofs.Showing.{sets-front, lent-front}
+use Rattle.library_code.proofs.Showing.{sets-front, lent-front}
 use Rattle.library_run.specs.Run.{shown, imageOf, showing}
 use Rattle.feed.specs.Left.{left}
 use Rattle.demand3.specs.Held.{Held, lentOf}
 use Rattle.trace.specs.Lent.{Left}
 use Rattle.readiness.specs.declared.Status.{Status}
 use Rattle.bits.specs.Widths.{atMost}
-use Rattle.staticlib.proofs.run_and_show.Statement.{statement}
-use Rattle.staticlib.proofs.run_and_show.Tie as tie
+use Rattle.library_code.proofs.run_and_show.Statement.{statement}
+use Rattle.library_code.proofs.run_and_show.Tie as tie
 
-run-over-requires : tie.Need-run-over-requires
-run-over-requires c κs = search needs
+run-over-memory-requires : tie.Need-run-over-memory-requires
+run-over-memory-requires c κs = search needs
 
 at-most-requires : tie.Need-at-most-requires
 at-most-requires c κs = search needs
@@ -42,27 +42,27 @@ same-length-3 c = search needs
 same-length-4 : tie.Need-same-length-4
 same-length-4 c = search needs
 
-long : (c : tie.After-run-over) → length (c .run-over .result .port .carried) ≡ 16
+long : (c : tie.After-run-over-memory) → length (c .run-over-memory .result .port .carried) ≡ 16
 long c = search needs
 
 returns : tie.Need-returns
 unfolding showing
 returns c = let s = c .before .before .before .before .before .before .before .before .before .before .before .before .before .before .before .before .before .before .before .before .before .before .before .before in
     let a = s .args in
-    let o = c .before .before .before .before .before .before .before .before .before .before .before .before .before .before .run-over in
+    let o = c .before .before .before .before .before .before .before .before .before .before .before .before .before .before .run-over-memory in
     let f = o .result in
     let n = a .setup .slots in
     let k = atMost n 32 in
-    let live = o .last .1 .0 in
-    let cells = o .last .1 .1 .1 .0 in
-    let answers = o .last .1 .1 .1 .1 .1 .1 .0 in
+    let live = o .last .1 .1 .1 .0 in
+    let cells = o .last .1 .1 .1 .1 .1 .0 in
+    let answers = o .last .1 .1 .1 .1 .1 .1 .1 .0 in
     let x = left n f live cells answers in
     let image = a .image .now in
     let ends = c .before .before .before .put-image .ensures .1 in
-    let w : length live ≡ 64 * k = o .kept .1 .0 ∙ s .pre .0 in
+    let w : length live ≡ 64 * k = o .kept .1 .1 .1 .0 ∙ s .pre .0 in
     let all : length (take k (f .statuses)) ≡ k = omega (arith, length-take k (f .statuses), ends) in
     let size = lengths (f .consumed) (f .written) (f .port) (take k (f .statuses)) live cells k (long (c .before .before .before .before .before .before .before .before .before .before .before .before .before .before)) all w .whole in
-    let fits : length (imageOf (f .consumed) (f .written) (f .port) (take k (f .statuses)) live cells) ≤ length image = omega (arith, size, s .pre .1, o .kept .1 .1 .1 .0) in
+    let fits : length (imageOf (f .consumed) (f .written) (f .port) (take k (f .statuses)) live cells) ≤ length image = omega (arith, size, s .pre .1, o .kept .1 .1 .1 .1 .1 .0) in
     let e : c .before .before .before .put-image .last .0 ≡ imageOf (f .consumed) (f .written) (f .port) (take k (lentOf n (f .statuses))) live cells ++ drop (length (imageOf (f .consumed) (f .written) (f .port) (take k (lentOf n (f .statuses))) live cells)) image =
     c .before .before .before .put-image .ensures .0
     ∙ ap (λ (j : ℕ). sets image 0 (imageOf (f .consumed) (f .written) (f .port) (take j (f .statuses)) live cells)) (c .before .before .before .before .before .before .at-most .ensures .0)
@@ -75,7 +75,7 @@ pub run-and-show-spec : {M : Type 1} → statement M
 run-and-show-spec =
     tie.close
     (tie.spec
-    run-over-requires
+    run-over-memory-requires
     at-most-requires
     put-image-requires
     u64-of-u8-requires

@@ -1,11 +1,11 @@
--- `staticlib::put_counts` meets its contract.
+-- `library_code::put_counts` meets its contract.
 use mathlib.Core.Path.{refl, _∙_}
 use lib.Seq.{sets}
 use borrow.Author.Needs.{needs}
 use Rattle.state_layout.proofs.Stores.{sets-next}
 use Rattle.state_layout.specs.Numbers.{lowFirst}
-use Rattle.staticlib.proofs.put_counts.Statement.{statement}
-use Rattle.staticlib.proofs.put_counts.Tie as tie
+use Rattle.library_code.proofs.put_counts.Statement.{statement}
+use Rattle.library_code.proofs.put_counts.Tie as tie
 
 u64-of-usize-requires : tie.Need-u64-of-usize-requires
 u64-of-usize-requires c κs = search needs

@@ -1,12 +1,12 @@
--- `staticlib::otsnebura_run` meets its contract.
+-- `library_code::run_text` meets its contract.
 use mathlib.Core.Path.{ap, sym, _∙_}
 use borrow.Author.Needs.{needs}
-use Rattle.library_run.specs.Run.{runOnCard, runOf}
+use Rattle.library_run.specs.Run.{runOnCard, runOnText}
 use Rattle.card_grammar.specs.Card.{Outcome}
 use Rattle.bits.proofs.Choices.{when-true, when-false}
-use Rattle.staticlib.proofs.Showing.{off, on}
-use Rattle.staticlib.proofs.otsnebura_run.Statement.{statement}
-use Rattle.staticlib.proofs.otsnebura_run.Tie as tie
+use Rattle.library_code.proofs.Showing.{off, on}
+use Rattle.library_code.proofs.run_text.Statement.{statement}
+use Rattle.library_code.proofs.run_text.Tie as tie
 
 slice-aggregate-read-card : tie.Need-slice-aggregate-read-card
 slice-aggregate-read-card c = search needs
@@ -15,7 +15,7 @@ read-card-requires : tie.Need-read-card-requires
 read-card-requires c κs = search needs
 
 returns : tie.Need-returns
-unfolding runOf
+unfolding runOnText
 returns c = sym (when-false _ _ _ (ap (λ (o : Outcome). o .read .ok) (sym (c .before .before .before .read-card .ensures)) ∙ off (c .before .before .before .read-card .result .ok) (c .if1 .taken)))
 
 slice-aggregate-run-card : tie.Need-slice-aggregate-run-card
@@ -31,15 +31,15 @@ same-length-2 : tie.Need-same-length-2
 same-length-2 c = search needs
 
 returns-2 : tie.Need-returns-2
-unfolding runOf
+unfolding runOnText
 returns-2 c = let a = c .before .before .before .before .before .before .before .before .before .before .before .before .before .before .before .before .before .args in
     let e = c .before .before .before .before .before .before .before .before .before .before .before .read-card .ensures in
     c .before .before .before .before .run-card .ensures
-    ∙ ap (λ (o : Outcome). runOnCard (o .read) (o .words) (a .trace .now) (a .piece) (a .answers .now) (a .image .now)) e
+    ∙ ap (λ (o : Outcome). runOnCard (a .captured) (a .piece) (o .read) (o .words) (a .input .now) (a .answers .now) (a .image .now)) e
     ∙ sym (when-true _ _ _ (ap (λ (o : Outcome). o .read .ok) (sym e) ∙ on (c .before .before .before .before .before .before .before .before .before .before .before .read-card .result .ok) (c .before .before .before .before .before .before .before .before .if1 .left)))
 
-pub otsnebura-run-spec : {M : Type 1} → statement M
-otsnebura-run-spec =
+pub run-text-spec : {M : Type 1} → statement M
+run-text-spec =
     tie.close
     (tie.spec
     slice-aggregate-read-card

@@ -1,4 +1,4 @@
--- `staticlib::run_card` meets its contract.
+-- `library_code::run_card` meets its contract.
 use Prim.Native.Nat.{ℕ, _*_, _-_, _<_, _≤_}
 use mathlib.Core.Path.{_≡_, ap, sym, subst, _∙_}
 use mathlib.Core.List.{List}
@@ -7,13 +7,13 @@ use borrow.Author.Tests.{lt-ltb, le-ltb}
 use borrow.Author.Needs.{needs}
 use native.Mathlib.Omega.{arith}
 use native.Mathlib.Nat.{sub-zero}
-use Rattle.trace_in_pieces.specs.Pieces.{blankHeld, runsOn}
-use Rattle.staticlib.proofs.Showing.{take-same}
-use Rattle.library_run.specs.Run.{imageSize, showing, runOnCard}
+use Rattle.trace_in_pieces.specs.Pieces.{blankHeld}
+use Rattle.library_code.proofs.Showing.{take-same}
+use Rattle.library_run.specs.Run.{imageSize, showing, ranOn, runOnCard}
 use Rattle.bits.proofs.Choices.{when-true, when-false}
 use Rattle.bits.specs.Widths.{atMost}
-use Rattle.staticlib.proofs.run_card.Statement.{statement}
-use Rattle.staticlib.proofs.run_card.Tie as tie
+use Rattle.library_code.proofs.run_card.Statement.{statement}
+use Rattle.library_code.proofs.run_card.Tie as tie
 
 at-most-requires : tie.Need-at-most-requires
 at-most-requires c κs = search needs
@@ -88,7 +88,7 @@ returns-2 c =
     let cells : take (q - 0) z₂ ≡ replicate m 0 = ap (λ (j : ℕ). take j z₂) (sub-zero q ∙ eq) ∙ take-same m 4095 0 q₄ in
     let size : c .before .before .before .before .before .before .before .before .before .before .before .before .before .image-bytes .result ≡ imageSize k m = c .before .before .before .before .before .before .before .before .before .before .before .before .before .image-bytes .ensures ∙ (λ t. imageSize (en t) (eq t)) in
     c .before .before .before .before .before .before .run-and-show .ensures
-    ∙ (λ t. showing k (runsOn (a .read .setup) (words t) (a .size) (blankHeld (a .read .setup) (live t) (cells t)) (a .trace .now) (a .answers .now)) (a .image .now))
+    ∙ (λ t. showing k (ranOn (a .captured) (a .piece) (a .read .setup) (words t) (blankHeld (a .read .setup) (live t) (cells t)) (a .input .now) (a .answers .now)) (a .image .now))
     ∙ sym (when-false _ _ _ (le-ltb _ _ (subst (λ (j : ℕ). j ≤ length (a .image .now)) size (c .before .before .before .before .before .before .before .before .before .before .before .before .if1 .left))))
 
 pub run-card-spec : {M : Type 1} → statement M

@@ -1,4 +1,4 @@
--- `staticlib::put_image` meets its contract.
+-- `library_code::put_image` meets its contract.
 use Prim.Native.Nat.{ℕ, _+_, _*_}
 use mathlib.Core.List.{List}
 use mathlib.Core.Path.{_≡_, ap, _∙_}
@@ -6,11 +6,11 @@ use native.Mathlib.Omega.{arith}
 use lib.Seq.{sets}
 use lib.ListN.{length, take, length-take}
 use borrow.Author.Needs.{needs}
-use Rattle.staticlib.proofs.Showing.{at-most-is, image-stores}
+use Rattle.library_code.proofs.Showing.{at-most-is, image-stores}
 use Rattle.state_layout.specs.Image.{stateBytes}
 use Rattle.state_layout.specs.Numbers.{wordBytes}
-use Rattle.staticlib.proofs.put_image.Statement.{statement}
-use Rattle.staticlib.proofs.put_image.Tie as tie
+use Rattle.library_code.proofs.put_image.Statement.{statement}
+use Rattle.library_code.proofs.put_image.Tie as tie
 
 image-size-requires : tie.Need-image-size-requires
 image-size-requires c κs = search needs

@@ -1,14 +1,14 @@
--- `staticlib::put_state_behind` meets its contract.
+-- `library_code::put_state_behind` meets its contract.
 use Prim.Native.Nat.{_+_, _≤_}
 use native.Mathlib.Omega.{arith}
 use mathlib.Core.Path.{_≡_}
 use lib.ListN.{length, take, length-take}
 use borrow.Author.Needs.{needs}
-use Rattle.staticlib.proofs.Showing.{tail-stores}
+use Rattle.library_code.proofs.Showing.{tail-stores}
 use Rattle.state_layout.proofs.Steps.{length-state}
 use Rattle.state_layout.specs.Image.{stateBytes}
-use Rattle.staticlib.proofs.put_state_behind.Statement.{statement}
-use Rattle.staticlib.proofs.put_state_behind.Tie as tie
+use Rattle.library_code.proofs.put_state_behind.Statement.{statement}
+use Rattle.library_code.proofs.put_state_behind.Tie as tie
 
 sub-put-state : tie.Need-sub-put-state
 sub-put-state c = search needs

@@ -7,8 +7,7 @@ pub struct Arguments {
 }
 
 /// Options without a value.
-const SWITCHES: [&str; 6] =
-    ["--table", "--masks", "--compare", "--lengths", "--sheets", "--captures"];
+const SWITCHES: [&str; 5] = ["--table", "--masks", "--compare", "--lengths", "--sheets"];
 
 impl Arguments {
     pub fn read(given: impl Iterator<Item = String>) -> Result<Arguments, String> {

@@ -21,47 +21,19 @@ use cli_sheet::sheet_shown::sheet_command;
 use cli_tools::message::message_command;
 use cli_tools::pack::pack;
 use cli_tools::show::show;
-use cli_tools::show_capture::show_capture;
-
-// ---- Show
-
-// Shows the trace that argument i names.
-fn show_trace(i: usize) -> Outcome {
-    let fd = open_file(i);
-    if fd < 0 {
-        return Outcome::Unusable;
-    }
-    let outcome = show(fd, i);
-    close_file(fd);
-    outcome
-}
-
-// Shows the capture that argument i names.
-fn show_captured(i: usize) -> Outcome {
-    let fd = open_file(i);
-    if fd < 0 {
-        return Outcome::Unusable;
-    }
-    let outcome = show_capture(fd, i);
-    close_file(fd);
-    outcome
-}
 
 fn show_command() -> Outcome {
-    let first = arg_is(2, b"--capture");
-    if (arg_count() == 3) & !first {
-        return show_trace(2);
+    if arg_count() != 3 {
+        return bad_usage(b"show wants one file, TRACE");
     }
-    if (arg_count() == 4) & first {
-        return show_captured(3);
+    let fd = open_file(2);
+    if fd < 0 {
+        return Outcome::Unusable;
     }
-    if (arg_count() == 4) & arg_is(3, b"--capture") {
-        return show_captured(2);
-    }
-    bad_usage(b"show wants one file, TRACE, or --capture and one file, CAPTURE")
+    let outcome = show(fd, 2);
+    close_file(fd);
+    outcome
 }
-
-// ---- Pack, card, sheet
 
 fn pack_command() -> Outcome {
     if arg_count() != 3 {
@@ -101,21 +73,24 @@ fn times_command() -> Outcome {
     })
 }
 
-// ---- Run, replay
+// ---- Run
 
 fn run_card(card: Loaded, words: &[u32], o: Options) -> Outcome {
-    let input = open_file(o.input);
-    if input < 0 {
+    let trace = open_file(o.input);
+    if trace < 0 {
         return Outcome::Unusable;
     }
     let setup = card.setup;
-    let outcome = run(setup, card.queue, words, o, input);
-    close_file(input);
+    let outcome = run(setup, card.queue, words, o, trace);
+    close_file(trace);
     outcome
 }
 
-// Runs a trace, or replays a capture.
-fn run_options(o: Options) -> Outcome {
+fn run_command() -> Outcome {
+    let o = options_given();
+    if !is_run(o) {
+        return bad_usage(b"run wants CARD and TRACE, and takes --quiet and --answers FILE");
+    }
     if overwrites_input(o) {
         return Outcome::Unusable;
     }
@@ -127,31 +102,11 @@ fn run_options(o: Options) -> Outcome {
     loaded.outcome
 }
 
-fn run_command() -> Outcome {
-    let o = options_given();
-    if !is_run(o) {
-        return bad_usage(b"run wants CARD and TRACE, and takes --quiet and --answers FILE");
-    }
-    run_options(o)
-}
-
-fn replay_command() -> Outcome {
-    let mut o = options_given();
-    if !is_run(o) {
-        return bad_usage(b"replay wants CARD and CAPTURE, and takes --quiet and --answers FILE");
-    }
-    o.capture = true;
-    run_options(o)
-}
-
 // ---- Any command
 
 fn file_command() -> Outcome {
     if arg_is(1, b"run") {
         return run_command();
-    }
-    if arg_is(1, b"replay") {
-        return replay_command();
     }
     if arg_is(1, b"card") {
         return card_command();
@@ -165,7 +120,7 @@ fn file_command() -> Outcome {
     if arg_is(1, b"pack") {
         return pack_command();
     }
-    bad_usage(b"unknown command: expected run, replay, card, sheet, code, show, pack or message")
+    bad_usage(b"unknown command: expected run, card, sheet, code, show, pack or message")
 }
 
 pub fn command() -> Outcome {

@@ -1,8 +1,7 @@
 // The command `otsnebura`: the test bench for people.
-mod options; // what stands after `run`, `replay` and `sheet`
+mod options; // what stands after `run`
 mod answers; // the file that `--answers` names
 mod help; // the page of help
-mod replaying; // `otsnebura replay`, after the set-up
 mod run; // `otsnebura run`
 mod commands; // the commands by their names
 

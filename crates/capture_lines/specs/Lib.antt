@@ -1,3 +1,0 @@
-pub mod Stamps
-pub mod Captures
-pub mod Faults

@@ -9,6 +9,7 @@ pub mod Kept
 pub mod Refusing
 pub mod Theorem
 pub mod Steps
+pub mod Wholes
 pub mod Entries
 pub mod Matching
 pub mod Reaching

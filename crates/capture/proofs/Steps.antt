@@ -54,10 +54,10 @@ took-none r m e = ap (tookKind r) e
 took-some : (r : Progress) (m : ℕ) → 0 < m → tookKind r m ≡ begins r
 took-some r m h = if-false (eqb m 0) r (begins r) (ne-eqb m 0 (λ q. omega arith))
 
-none-more : (r : Progress) → moreAnswered 0 r ≡ r
+pub none-more : (r : Progress) → moreAnswered 0 r ≡ r
 none-more r = λ i. record { earlier = r .earlier; stamp = r .stamp; answered = add-zero (r .answered) i; ended = r .ended }
 
-one-then : (n : ℕ) (r : Progress) → moreAnswered (suc n) r ≡ moreAnswered n (moreAnswered 1 r)
+pub one-then : (n : ℕ) (r : Progress) → moreAnswered (suc n) r ≡ moreAnswered n (moreAnswered 1 r)
 one-then n r =
     let e : r .answered + suc n ≡ r .answered + 1 + n = omega arith in
     λ i. record { earlier = r .earlier; stamp = r .stamp; answered = e i; ended = r .ended }

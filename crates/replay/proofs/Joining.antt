@@ -1,6 +1,6 @@
 -- A call with bytes carried: the record that they begin, and then the entries; or no record.
 use Prim.Native.Nat.{ℕ, _+_, _-_, _≤_, _<_}
-use mathlib.Core.Path.{_≡_, refl, ap, sym, _∙_, subst}
+use mathlib.Core.Path.{_≡_, ap, sym, _∙_, subst}
 use mathlib.Core.Bool.{true}
 use mathlib.Core.List.{List, [], _++_, append-assoc}
 use native.Mathlib.Omega.{arith}
@@ -12,8 +12,7 @@ use Rattle.trace.specs.Bench.{Device, Ran}
 use Rattle.trace.specs.Lent.{Left}
 use Rattle.trace.specs.inner.Gathered.{wholeSize, endNumber, endCount}
 use Rattle.trace.proofs.Records.{carrying}
-use Rattle.trace.proofs.Loop.{Got, got-bytes, by-gather, next-itself, end-few}
-use Rattle.bits.proofs.Bytes.{bytes-take}
+use Rattle.trace.proofs.Loop.{Got, by-gather, end-few}
 use Rattle.readiness.specs.declared.Status.{Status}
 use Rattle.readiness.specs.declared.Setup.{Setup}
 use Rattle.records.specs.declared.Port.{Port}
@@ -22,12 +21,11 @@ use Rattle.records.specs.Device.{device}
 use Rattle.records.proofs.Kept.{keeps-itself}
 use Rattle.capture.specs.declared.Replay.{Replay}
 use Rattle.capture.specs.Replay.{Progress, Replayed, later, replayOpen}
-use Rattle.capture.specs.Lent.{progressIn, replayOf, leaves}
+use Rattle.capture.specs.Lent.{progressIn, leaves}
 use Rattle.capture.proofs.Steps.{carried-record, carried-end}
 use Rattle.demand3.specs.Held.{held, carriedOf}
 use Rattle.demand3.specs.Feeding.{bench}
 use Rattle.demand3.proofs.Good.{Good, good-keeps}
-use Rattle.feed.specs.inner.Calls.{carriesOn}
 use Rattle.replay_rules.specs.Replaying.{HeldWith, heldWith}
 use Rattle.replay_state.specs.inner.Moves.{Tidy}
 use Rattle.replay.specs.inner.Calls.{Going, comesTo, carriedOn}

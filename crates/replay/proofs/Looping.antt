@@ -1,12 +1,12 @@
 -- What holds at the head of replay's loop, that a step keeps it, and what its end gives.
-use Prim.Native.Nat.{ℕ, _+_, _-_, _≤_, _<_}
+use Prim.Native.Nat.{ℕ, _+_, _-_, _≤_}
 use mathlib.Core.Path.{_≡_, refl, ap, sym, _∙_, subst}
 use mathlib.Core.Bool.{Bool, true, false}
 use mathlib.Core.List.{List, [], _++_, append-nil}
 use native.Mathlib.Omega.{arith}
 use native.Mathlib.Nat.{sub-zero}
-use lib.ListN.{length, take, drop, length-append, take-append-drop, length-drop}
-use lib.Seq.{drop-drop, length-take-le, take-length, paste, take-paste, drop-paste, length-paste}
+use lib.ListN.{length, take, drop, take-append-drop, length-drop}
+use lib.Seq.{drop-drop, length-take-le, take-length, take-paste, drop-paste, length-paste}
 use lib.Dec.{eqb}
 use Rattle.trace.specs.Format.{if_then_else_, Bytes, pad, longest, next}
 use Rattle.trace.specs.Bench.{Device, Ran}
@@ -29,7 +29,6 @@ use Rattle.capture.proofs.Steps.{tookKind, later-zero, later-later}
 use Rattle.demand3.specs.Held.{held, opened, heldOf}
 use Rattle.demand3.specs.Feeding.{bench}
 use Rattle.demand3.proofs.Good.{Good, good-keeps}
-use Rattle.feed.specs.inner.Calls.{carriesOn}
 use Rattle.feed.specs.inner.Turns.{TakesTurn}
 use Rattle.feed.proofs.Parts.{ran-bytes}
 use Rattle.replay_rules.specs.Replaying.{HeldWith, heldWith}

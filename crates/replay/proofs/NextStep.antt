@@ -4,42 +4,35 @@ use mathlib.Core.Path.{_≡_, refl, ap, sym, _∙_, subst}
 use mathlib.Core.Bool.{Bool, true, false, true≢false, false≢true}
 use mathlib.Core.List.{List, [], _∷_, _++_, append-nil}
 use native.Mathlib.Omega.{arith}
-use native.Mathlib.Nat.{sub-zero}
-use lib.ListN.{length, take, drop, length-append, length-drop, take-append-drop}
-use lib.Seq.{drop-drop, length-take-le}
+use lib.ListN.{length, take, drop, length-append, length-drop}
+use lib.Seq.{drop-drop}
 use lib.Dec.{ltb, leb, eqb}
-use borrow.Author.Tests.{ltb-true, ltb-false, leb-true, leb-false, eqb-true, eqb-false, eq-eqb, ne-eqb}
+use borrow.Author.Tests.{ltb-true, ltb-false, leb-true, leb-false, eqb-true, eqb-false, ne-eqb}
 use Rattle.bits.proofs.Numbers.{four-bytes}
 use Rattle.bits.proofs.Bytes.{bytes-take, bytes-drop}
 use Rattle.times.specs.declared.Nanos.{Nanos}
 use Rattle.ticks.specs.Ticks.{difference, wentBack, inNanos}
 use Rattle.trace.specs.Format.{if_then_else_, Bytes, pad, longest, next, complete}
 use Rattle.trace.specs.Bench.{Device}
-use Rattle.trace.specs.Feed.{kindAt}
 use Rattle.trace.specs.inner.Gathered.{wholeSize, endNumber, endCount}
-use Rattle.trace.proofs.Tests.{if-cases, if-true, if-false}
-use Rattle.trace.proofs.Records.{carrying, Complete}
-use Rattle.trace.proofs.Loop.{Got, got-bytes, got-count, got-size, Ends, by-gather, next-itself, end-few}
+use Rattle.trace.proofs.Tests.{if-cases, if-false}
+use Rattle.trace.proofs.Records.{carrying}
+use Rattle.trace.proofs.Loop.{got-bytes, got-count, got-size, by-gather, next-itself}
 use Rattle.readiness.specs.declared.Setup.{Setup}
-use Rattle.readiness.specs.declared.Dev.{Dev}
-use Rattle.records.specs.declared.Record.{Record}
 use Rattle.records.specs.declared.Record.the-variants.{Advance}
 use Rattle.records.specs.State.{State}
 use Rattle.records.specs.Decode.{four, decode}
 use Rattle.records.specs.Device.{device}
 use Rattle.decode.proofs.Whole.{decode-alone}
-use Rattle.capture.specs.declared.Replay.{Replay}
 use Rattle.capture.specs.Advances.{Earlier, none, was, stampIn, back, advances, between, due, advance, longestAdvance}
 use Rattle.capture.specs.Replay.{Progress, Replayed, begins, endedWith, moreAnswered, still, later, replayOpen}
 use Rattle.capture.specs.Lent.{progressIn, replayOf}
 use Rattle.capture.proofs.Advancing.{bytes-advance, advance-whole, due-none}
 use Rattle.capture.proofs.Kept.{read-kept}
 use Rattle.capture.proofs.Steps.{InOrder, AtRecord, tookKind, later-later, stamps, goes-back, kind-01, no-advance-room, one-advance, whole-record, no-record}
-use Rattle.demand3.specs.Held.{opened}
-use Rattle.feed.specs.inner.Calls.{carriesOn}
-use Rattle.replay_state.specs.inner.Moves.{Tidy, moreBytes, checkedAt}
+use Rattle.replay_state.specs.inner.Moves.{Tidy, moreBytes}
 use Rattle.replay.specs.declared.Step.{Step}
-use Rattle.replay.specs.inner.Steps.{halts, runsNext, stepOfSize, stepAtRecord, stepAtAdvances, stepAfterStamp, stepOf}
+use Rattle.replay.specs.inner.Steps.{halts, runsNext, stepAtRecord, stepAtAdvances, stepAfterStamp, stepOf}
 use Rattle.replay.specs.inner.Calls.{Between}
 
 -- ---- an advance that is due fits a record 01

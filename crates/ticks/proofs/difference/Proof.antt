@@ -3,7 +3,6 @@ use Prim.Native.Nat.{ℕ, _+_, _-_, _%_, _<_}
 use mathlib.Core.Path.{_≡_, ap}
 use native.Mathlib.Omega.{arith}
 use borrow.Author.Needs.{needs}
-use Rattle.ticks.specs.declared.Ticks.{Ticks}
 use Rattle.ticks.specs.Ticks.{difference}
 use Rattle.ticks.proofs.difference.Statement.{statement}
 use Rattle.ticks.proofs.difference.Tie as tie

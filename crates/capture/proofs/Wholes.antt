@@ -10,15 +10,17 @@ use lib.Seq.{take-at, drop-at, drop-drop, drop-length}
 use lib.Dec.{eqb}
 use Rattle.times.specs.declared.Nanos.{Nanos}
 use Rattle.ticks.specs.declared.Stamp.{Stamp}
-use Rattle.trace.specs.Format.{body, next, complete}
+use Rattle.bits.proofs.Bytes.{bytes-append}
+use Rattle.trace.specs.Format.{Bytes, body, next, complete}
 use Rattle.trace.specs.Bench.{Device, Ran, runs}
 use Rattle.trace.specs.Feed.{kindAt, feedOpen}
 use Rattle.trace.specs.Feed as Feed
 use Rattle.trace.specs.Exactly.{joinedUp, AllWhole}
 use Rattle.trace.proofs.Records.{carrying, Complete, complete-at, length-whole, feed-complete}
 use Rattle.trace.proofs.Records as Records
-use Rattle.capture.specs.Advances.{Earlier, was, stampIn, back, due, advance}
-use Rattle.capture.specs.Replay.{Progress, moreAnswered, later, replayOpen}
+use Rattle.capture.specs.Advances.{was, stampIn, back, due, advance, advanceBytes}
+use Rattle.capture.specs.Replay.{Progress, afterEntry, moreAnswered, later, replayOpen}
+use Rattle.capture.proofs.Advancing.{bytes-advance, advance-whole}
 use Rattle.capture.proofs.Steps.{InOrder, AtRecord, moreStamps, none-more, one-then, later-zero, later-later, stamps, one-advance, whole-record}
 
 -- a whole record, with more behind it
@@ -29,9 +31,32 @@ whole-front (k ∷ rest) more e =
     let l = length-whole (k ∷ rest) (k ∷ rest) h .0 in
     record { kind = h .kind; is = sym (take-at (k ∷ rest) more (suc (body k)) l); fits = omega (arith, h .fits, length-append (k ∷ rest) more) }
 
--- between two entries
-abbrev pub betweenEntries : Earlier → Progress
-betweenEntries e = record { earlier = e; stamp = []; answered = 0; ended = 0 }
+-- ---- whole records one after the other
+pub joined-append : (xs ys : List (List ℕ)) → joinedUp (xs ++ ys) ≡ joinedUp xs ++ joinedUp ys
+joined-append [] ys = refl
+joined-append (r ∷ xs) ys = ap (λ (l : List ℕ). r ++ l) (joined-append xs ys) ∙ sym (append-assoc r (joinedUp xs) (joinedUp ys))
+
+pub wholes-append : (xs ys : List (List ℕ)) → AllWhole xs → AllWhole ys → AllWhole (xs ++ ys)
+wholes-append [] ys a b = b
+wholes-append (r ∷ xs) ys a b = (a .0, wholes-append xs ys (a .1) b)
+
+-- advances
+pub joined-advances : (ts : List Nanos) → joinedUp (map advance ts) ≡ advanceBytes ts
+joined-advances [] = refl
+joined-advances (t ∷ ts) = ap (λ (l : List ℕ). advance t ++ l) (joined-advances ts)
+
+pub wholes-advances : (ts : List Nanos) → AllWhole (map advance ts)
+wholes-advances [] = tt
+wholes-advances (t ∷ ts) = (advance-whole t, wholes-advances ts)
+
+pub bytes-advances : (ts : List Nanos) → Bytes (advanceBytes ts)
+bytes-advances [] = tt
+bytes-advances (t ∷ ts) = bytes-append (advance t) (advanceBytes ts) (bytes-advance t) (bytes-advances ts)
+
+pub length-advances : (ts : List Nanos) → length (advanceBytes ts) ≡ 5 * length ts
+unfolding advance
+length-advances [] = refl
+length-advances (t ∷ ts) = omega (arith, length-append (advance t) (advanceBytes ts), length-advances ts)
 
 module _ {S : Type 0} (D : Device S) where
   -- records one after the other
@@ -46,6 +71,14 @@ module _ {S : Type 0} (D : Device S) where
       let y = runs D (x .state) ys in
       _∙_ {A = Ran S} (ap (λ (z : Ran S). record { state = z .state; answer = a .answer ++ z .answer }) (runs-append (a .state) xs ys))
       (λ i. record { state = y .state; answer = sym (append-assoc (a .answer) (x .answer) (y .answer)) i })
+
+  -- each has 8 bytes of answer
+  pub runs-eight : (s : S) (ws : List (List ℕ)) → length (runs D s ws .answer) ≡ 8 * length ws
+  unfolding runs
+  runs-eight s [] = refl
+  runs-eight s (w ∷ ws) =
+      let x = D .run s w in
+      omega (arith, length-append (x .answer) (runs D (x .state) ws .answer), D .eight s w, runs-eight (x .state) ws)
 
   -- FEED ON WHOLE RECORDS, with room for their answers
   pub feed-wholes : (s : S) (ws : List (List ℕ)) → AllWhole ws → (room : ℕ) → 8 * length ws ≤ room → (rest : List ℕ)
@@ -87,14 +120,14 @@ module _ {S : Type 0} (D : Device S) where
       → next bytes ≡ complete bytes → eqb (kindAt bytes 0) 1 ≡ false → 8 * length (due (was e) stamp) + 8 ≤ room
       → (let x = runs D s (map advance (due (was e) stamp)) in
       let z = D .run (x .state) bytes in
-      replayOpen D (carrying s []) (betweenEntries (was e)) room ((stamp ++ bytes) ++ rest)
+      replayOpen D (carrying s []) (afterEntry e) room ((stamp ++ bytes) ++ rest)
       ≡ later (4 + length bytes) (x .answer ++ z .answer)
-      (replayOpen D (carrying (z .state) []) (betweenEntries (was (stampIn stamp))) (room - (8 * length (due (was e) stamp) + 8)) rest))
+      (replayOpen D (carrying (z .state) []) (afterEntry (stampIn stamp)) (room - (8 * length (due (was e) stamp) + 8)) rest))
   entry-runs s e stamp [] rest room l f w k h = let c = complete-at [] [] w in absurd (omega (arith, c .fits))
   entry-runs s e stamp (k ∷ more) rest room l f w n h =
       let bytes = k ∷ more in
       let ts = due (was e) stamp in
-      let q = moreStamps stamp (betweenEntries (was e)) in
+      let q = moreStamps stamp (afterEntry e) in
       let q′ = moreAnswered (length ts) q in
       let x = runs D s (map advance ts) in
       let z = D .run (x .state) bytes in
@@ -108,10 +141,10 @@ module _ {S : Type 0} (D : Device S) where
       } in
       let room′ : room - 8 * length ts - 8 ≡ room - (8 * length ts + 8) = omega arith in
       let count : length stamp + 0 + length bytes ≡ 4 + length bytes = omega (arith, l) in
-      ap (replayOpen D (carrying s []) (betweenEntries (was e)) room) (append-assoc stamp bytes rest)
-      ∙ stamps D s (betweenEntries (was e)) room stamp (bytes ++ rest) (omega (arith, l))
+      ap (replayOpen D (carrying s []) (afterEntry e) room) (append-assoc stamp bytes rest)
+      ∙ stamps D s (afterEntry e) room stamp (bytes ++ rest) (omega (arith, l))
       ∙ ap (later (length stamp) []) (advances-run ts s q room k (more ++ rest) (record { stamped = l; forward = f; kind = n }) refl (omega arith))
       ∙ later-later (length stamp) 0 [] (x .answer) (replayOpen D (carrying (x .state) []) q′ (room - 8 * length ts) (bytes ++ rest))
       ∙ ap (later (length stamp + 0) (x .answer)) (whole-record D (x .state) q′ (room - 8 * length ts) (bytes ++ rest) bytes there (whole-front bytes rest w) (omega arith))
-      ∙ later-later (length stamp + 0) (length bytes) (x .answer) (z .answer) (replayOpen D (carrying (z .state) []) (betweenEntries (was (stampIn stamp))) (room - 8 * length ts - 8) (drop (length bytes) (bytes ++ rest)))
-      ∙ (λ i. later (count i) (x .answer ++ z .answer) (replayOpen D (carrying (z .state) []) (betweenEntries (was (stampIn stamp))) (room′ i) (drop-at bytes rest (length bytes) refl i)))
+      ∙ later-later (length stamp + 0) (length bytes) (x .answer) (z .answer) (replayOpen D (carrying (z .state) []) (afterEntry (stampIn stamp)) (room - 8 * length ts - 8) (drop (length bytes) (bytes ++ rest)))
+      ∙ (λ i. later (count i) (x .answer ++ z .answer) (replayOpen D (carrying (z .state) []) (afterEntry (stampIn stamp)) (room′ i) (drop-at bytes rest (length bytes) refl i)))

@@ -5,6 +5,7 @@ use mathlib.Core.List.{List, [], _∷_, _++_}
 use lib.ListN.{length, drop}
 use lib.Dec.{leb, ltb, eqb}
 use Rattle.times.specs.declared.Nanos.{Nanos}
+use Rattle.ticks.specs.declared.Stamp.{Stamp}
 use Rattle.trace.specs.Format.{if_then_else_}
 use Rattle.trace.specs.Bench.{Device, Ran, Bench}
 use Rattle.trace.specs.Feed.{Step, took, stop, byte}
@@ -22,6 +23,10 @@ pub record Progress : Type 0 where
 
 abbrev pub fresh : Progress
 fresh = record { earlier = none; stamp = []; answered = 0; ended = 0 }
+
+-- between two entries, the first of which has this stamp
+abbrev pub afterEntry : Stamp → Progress
+afterEntry stamp = record { earlier = was stamp; stamp = []; answered = 0; ended = 0 }
 
 -- ended is 0; or 32, where the recorder went back, or 33, where it did not, with all 4 bytes of the stamp
 unfoldable pub endFits : Progress → Bool

@@ -1,6 +1,5 @@
 pub mod Lent
 pub mod Parts
-pub mod Slots
 pub mod Accepting
 pub mod Looping
 pub mod Counts

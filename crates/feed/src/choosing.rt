@@ -1,5 +1,4 @@
 // How a record takes its turn: by the part of the state that it touches, with the commonest records apart.
-ghost use mathlib.Core.Path.{_≡_};
 ghost use mathlib.Core.Bool.{Bool};
 ghost use mathlib.Core.List.{List};
 ghost use lib.ListN.{set};
@@ -8,7 +7,7 @@ ghost use Rattle.readiness.specs.inner.Earliest.{ReadyFrom};
 ghost use Prim.Native.Nat.{ℕ, _<_};
 ghost use Rattle.times.specs.declared.Nanos.{Nanos};
 ghost use Rattle.records.specs.declared.Record.the-variants as variants;
-ghost use Rattle.feed.specs.inner.Turns.{Takes, slotOf, wholeCard};
+ghost use Rattle.feed.specs.inner.Turns.{Takes};
 use crate::Turn;
 use frs_queue::Frs;
 use messages::Message;
@@ -100,36 +99,6 @@ pub fn turn_of(slots: usize, earliest: Nanos, clock: Nanos, link: bool, record: 
         Record::HardwareSet(slot, word, mask) => of_hardware(slots, slot, word, mask),
         Record::ReadBits => Turn::Port,
         Record::NoKind => Turn::Port,
-    }
-}
-
-// Whether the whole card takes its turn.
-pub fn is_card(turn: Turn) -> bool
-    ensures { λ r. ⌜ r ≡ wholeCard turn ⌝ }
-{
-    match turn {
-        Turn::Read(_) => false,
-        Turn::Write(_, _) => false,
-        Turn::Hardware(_, _, _) => false,
-        Turn::Port => false,
-        Turn::Frs(_) => false,
-        Turn::Clock(_) => false,
-        Turn::Card => true,
-    }
-}
-
-// The slot of a turn, or 0.
-pub fn slot_of(turn: Turn) -> usize
-    ensures { λ r. ⌜ r ≡ slotOf turn ⌝ }
-{
-    match turn {
-        Turn::Read(q) => q.slot,
-        Turn::Write(q, _) => q.slot,
-        Turn::Hardware(slot, _, _) => slot,
-        Turn::Port => 0,
-        Turn::Frs(_) => 0,
-        Turn::Clock(_) => 0,
-        Turn::Card => 0,
     }
 }
 

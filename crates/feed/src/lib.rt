@@ -1,9 +1,8 @@
 // Feed by value over the lent slices: each whole record of a call's trace runs in its turn.
-pub mod choosing; // how a record takes its turn
+mod choosing; // how a record takes its turn
 pub mod closing; // the end of a call
 pub mod running; // the records of a call
-pub mod taking; // a record takes its turn
-pub mod turning; // a record's turn, and its answer
+mod turning; // a record's turn, and its answer
 
 ghost use mathlib.Core.Path.{_≡_};
 ghost use mathlib.Core.List.{List};
@@ -71,7 +70,7 @@ pub enum Turn {
 }
 
 // How a call begins.
-pub fn opens(
+fn opens(
     setup: Setup,
     port: Port,
     phases: &[u64],

@@ -29,7 +29,7 @@ use registers::Masks;
 
 // A call that is not refused, with nothing carried: each whole record runs in its turn, until the input ends, a kind is unknown or the room is
 // too small.
-fn run_input(
+pub fn run_input(
     table: &Masks,
     setup: Setup,
     start: Dev,

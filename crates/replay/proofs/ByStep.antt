@@ -13,8 +13,6 @@ use Rattle.trace.specs.Format.{if_then_else_, Next, complete, incomplete, unkno
 use Rattle.trace.specs.inner.Gathered.{wholeSize}
 use Rattle.trace.proofs.Tests.{if-cases, if-true, if-false}
 use Rattle.trace.proofs.Records.{length-whole, complete-at}
-use Rattle.records.specs.declared.Record.the-variants.{Advance}
-use Rattle.records.specs.Decode.{decode}
 use Rattle.capture.specs.declared.Replay.{Replay}
 use Rattle.capture.specs.Advances.{due}
 use Rattle.capture.specs.Replay.{Progress, begins, endedWith, moreAnswered}
@@ -25,7 +23,7 @@ use Rattle.replay_state.specs.inner.Moves.{Tidy, moreBytes, dueOf, checkedAt}
 use Rattle.replay_state.proofs.Moves.{bytes-there}
 use Rattle.replay_state.proofs.Dues.{count-is}
 use Rattle.replay.specs.declared.Step.{Step}
-use Rattle.replay.specs.inner.Steps.{halts, runsNext, stepAtRecord, stepAtAdvances, stepAfterStamp, stepOf}
+use Rattle.replay.specs.inner.Steps.{halts, runsAdvance, runsRecord, stepAtRecord, stepAtAdvances, stepAfterStamp, stepOf}
 use Rattle.replay.proofs.NextStep.{tidy-kept}
 
 -- ---- the bytes of a record that is whole are there
@@ -66,11 +64,11 @@ module _ (q : Progress) (space at : ℕ) where
     unfolding stepAtRecord
     no-record z = let s = wholeSize space (next rest) in sym (if-true (eqb s 0) _ _ (eq-eqb s 0 (sym e ∙ z)))
 
-    pub a-record : (size ≡ 0 → ⊥) → runsNext (decode rest) (begins q) (at + size) ≡ stepAtRecord q space at rest
+    pub a-record : (size ≡ 0 → ⊥) → runsRecord size (begins q) (at + size) ≡ stepAtRecord q space at rest
     unfolding stepAtRecord
     a-record z =
         let s = wholeSize space (next rest) in
-        ap (λ (n : ℕ). runsNext (decode rest) (begins q) (at + n)) e ∙ sym (if-false (eqb s 0) _ _ (ne-eqb s 0 (λ y. z (e ∙ y))))
+        ap (λ (n : ℕ). runsRecord n (begins q) (at + n)) e ∙ sym (if-false (eqb s 0) _ _ (ne-eqb s 0 (λ y. z (e ∙ y))))
 
   -- at an advance
   module _ (ts : List Nanos) (t : Nanos) (more : List Nanos) (e : ts ≡ t ∷ more) (rest : List ℕ) where
@@ -78,7 +76,7 @@ module _ (q : Progress) (space at : ℕ) where
     unfolding stepAtAdvances
     no-room h = sym (ap (λ (l : List Nanos). stepAtAdvances l q space at rest) e ∙ if-true (ltb space 8) _ _ (lt-ltb space 8 h))
 
-    pub an-advance : 8 ≤ space → runsNext (Advance t) (moreAnswered 1 q) at ≡ stepAtAdvances ts q space at rest
+    pub an-advance : 8 ≤ space → runsAdvance t (moreAnswered 1 q) at ≡ stepAtAdvances ts q space at rest
     unfolding stepAtAdvances
     an-advance h = sym (ap (λ (l : List Nanos). stepAtAdvances l q space at rest) e ∙ if-false (ltb space 8) _ _ (le-ltb space 8 h))
 

@@ -1,13 +1,13 @@
 -- A call with bytes carried: the record that they begin, and then the entries; or no record.
 use Prim.Native.Nat.{ℕ, _+_, _-_, _≤_, _<_}
-use mathlib.Core.Path.{_≡_, ap, sym, _∙_, subst}
+use mathlib.Core.Path.{_≡_, ap, sym, _∙_}
 use mathlib.Core.Bool.{true}
 use mathlib.Core.List.{List, [], _++_, append-assoc}
 use native.Mathlib.Omega.{arith}
 use lib.ListN.{length, take, drop, length-append, length-drop}
-use lib.Seq.{drop-drop, length-take-le, take-length, paste, take-paste, drop-paste}
+use lib.Seq.{drop-drop, length-take-le}
 use lib.Dec.{eqb}
-use Rattle.trace.specs.Format.{Bytes, begun, pad, next, complete}
+use Rattle.trace.specs.Format.{begun, pad, next}
 use Rattle.trace.specs.Bench.{Device, Ran}
 use Rattle.trace.specs.Lent.{Left}
 use Rattle.trace.specs.inner.Gathered.{wholeSize, endNumber, endCount}
@@ -18,29 +18,16 @@ use Rattle.readiness.specs.declared.Setup.{Setup}
 use Rattle.records.specs.declared.Port.{Port}
 use Rattle.records.specs.State.{State, state}
 use Rattle.records.specs.Device.{device}
-use Rattle.records.proofs.Kept.{keeps-itself}
 use Rattle.capture.specs.declared.Replay.{Replay}
 use Rattle.capture.specs.Replay.{Progress, Replayed, later, replayOpen}
 use Rattle.capture.specs.Lent.{progressIn, leaves}
 use Rattle.capture.proofs.Steps.{carried-record, carried-end}
 use Rattle.demand3.specs.Held.{held, carriedOf}
 use Rattle.demand3.specs.Feeding.{bench}
-use Rattle.demand3.proofs.Good.{Good, good-keeps}
 use Rattle.replay_rules.specs.Replaying.{HeldWith, heldWith}
 use Rattle.replay_state.specs.inner.Moves.{Tidy}
-use Rattle.replay.specs.inner.Calls.{Going, comesTo, carriedOn}
+use Rattle.replay.specs.inner.Calls.{comesTo, carriedOn}
 use Rattle.replay.proofs.Looping.{leftOf}
-
--- ---- what a call relies on
-pub going-good : (k : Setup) (defaults : List ℕ) (s : State) → Going k defaults s → Good k defaults s s
-going-good k defaults s g = record { setup = g .codes; kept = keeps-itself k defaults s (g .sound) (g .fits) }
-
--- and goes on relying on after a record
-pub going-on : (k : Setup) (defaults : List ℕ) (s t : State) → Going k defaults s → (w : List ℕ) → next w ≡ complete w → Bytes w
-    → t ≡ device k defaults .run s w .state → Going k defaults t
-going-on k defaults s t g w is b e =
-    let h = good-keeps k defaults s s w is b (going-good k defaults s g) in
-    subst (Going k defaults) (sym e) (record { codes = g .codes; sound = h .kept .sound; fits = h .kept .fits; perSlot = h .kept .statuses ∙ g .perSlot })
 
 module _ (k : Setup) (defaults : List ℕ) (s : State) (c input answers : List ℕ) (q : Progress) (b : begun c ≡ true) (some : 0 < length c) where
   abbrev D : Device State
@@ -48,17 +35,15 @@ module _ (k : Setup) (defaults : List ℕ) (s : State) (c input answers : List �
 
   -- THE RECORD, and then the rest
   pub joined : (size : ℕ) (g : Got (c ++ input) size) → 8 ≤ length answers → (t : State) (a : List ℕ) → _≡_ {A = Ran State} (record { state = t; answer = a }) (D .run s (g .whole))
-      → (after : List ℕ) → after ≡ paste answers 0 a 8
+      → (after : List ℕ) → take 8 after ≡ a → drop 8 after ≡ drop 8 answers
       → (y : Left HeldWith) → y ≡ comesTo k defaults t [] q (drop (size - length c) input) (drop 8 after)
       → _≡_ {A = Left HeldWith}
       (record { number = y .number; consumed = size - length c + y .consumed; written = 8 + y .written; held = y .held; answers = take 8 after ++ y .answers })
       (comesTo k defaults s c q input answers)
-  joined size g room t a ran after p y e =
+  joined size g room t a ran after ta da y e =
       let w = g .whole in
       let f = replayOpen D (carrying t []) q (length answers - 8) (drop (size - length c) input) in
       let a8 : length a ≡ 8 = ap (λ (u : Ran State). length (u .answer)) ran ∙ D .eight s w in
-      let ta : take 8 after ≡ a = ap (take 8) p ∙ take-paste answers 0 a 8 (omega arith) (omega arith) ∙ rw (← a8) (take-length a) in
-      let da : drop 8 after ≡ drop 8 answers = ap (drop 8) p ∙ drop-paste answers 0 a 8 (omega arith) (omega arith) in
       let one : replayOpen D (carrying s c) q (length answers) input ≡ later (size - length c) a f =
       carried-record D s c q (length answers) input w (g .is) room b some
       ∙ (λ i. later (sym (g .count) i - length c) (sym ran i .answer) (replayOpen D (carrying (sym ran i .state) []) q (length answers - 8) (drop (sym (g .count) i - length c) input))) in

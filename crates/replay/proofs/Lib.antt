@@ -1,4 +1,8 @@
 pub mod NextStep
+pub mod Pasting
+pub mod OneMore
+pub mod OneStep
+pub mod Feeding
 pub mod Looping
 pub mod Joining
 pub mod ByStep

@@ -1,15 +1,15 @@
--- What holds at the head of replay's loop, that a step keeps it, and what its end gives.
-use Prim.Native.Nat.{ℕ, _+_, _-_, _≤_}
+-- What holds at the head of replay's loop, that a stretch keeps it, and what its end gives.
+use Prim.Native.Nat.{ℕ, _+_, _-_, _≤_, _<_}
 use mathlib.Core.Path.{_≡_, refl, ap, sym, _∙_, subst}
 use mathlib.Core.Bool.{Bool, true, false}
-use mathlib.Core.List.{List, [], _++_, append-nil}
+use mathlib.Core.List.{List, [], _++_, append-nil, append-assoc}
 use native.Mathlib.Omega.{arith}
 use native.Mathlib.Nat.{sub-zero}
-use lib.ListN.{length, take, drop, take-append-drop, length-drop}
-use lib.Seq.{drop-drop, length-take-le, take-length, take-paste, drop-paste, length-paste}
+use lib.ListN.{length, take, drop, take-append-drop, length-append, length-drop}
+use lib.Seq.{take-at, drop-at, drop-drop, length-take-le}
 use lib.Dec.{eqb}
-use Rattle.trace.specs.Format.{if_then_else_, Bytes, pad, longest, next}
-use Rattle.trace.specs.Bench.{Device, Ran}
+use Rattle.trace.specs.Format.{if_then_else_, Bytes, pad, next}
+use Rattle.trace.specs.Bench.{Device, Ran, runs}
 use Rattle.trace.specs.Lent.{Left}
 use Rattle.trace.specs.inner.Gathered.{endNumber, endCount}
 use Rattle.trace.proofs.Tests.{if-cases, if-true, if-false}
@@ -19,25 +19,25 @@ use Rattle.readiness.specs.declared.Status.{Status}
 use Rattle.readiness.specs.declared.Setup.{Setup}
 use Rattle.readiness.specs.declared.Dev.{Dev}
 use Rattle.records.specs.State.{State, state}
-use Rattle.records.specs.Answer.{answerBytes}
-use Rattle.records.specs.Run.{run}
 use Rattle.records.specs.Device.{device}
 use Rattle.capture.specs.declared.Replay.{Replay}
 use Rattle.capture.specs.Replay.{Progress, Replayed, begins, still, later, replayOpen}
 use Rattle.capture.specs.Lent.{progressIn, replayOf, leaves}
 use Rattle.capture.proofs.Steps.{tookKind, later-zero, later-later}
+use Rattle.capture.proofs.Wholes.{runs-eight}
 use Rattle.demand3.specs.Held.{held, opened, heldOf}
 use Rattle.demand3.specs.Feeding.{bench}
-use Rattle.demand3.proofs.Good.{Good, good-keeps}
-use Rattle.feed.specs.inner.Turns.{TakesTurn}
-use Rattle.feed.proofs.Parts.{ran-bytes}
+use Rattle.demand3.proofs.Good.{Good}
 use Rattle.replay_rules.specs.Replaying.{HeldWith, heldWith}
 use Rattle.replay_state.specs.inner.Moves.{Tidy}
 use Rattle.replay.specs.declared.Step.{Step}
+use Rattle.replay.specs.declared.Stretch.{Stretch}
 use Rattle.replay.specs.declared.ReplayedPort.{ReplayedPort}
 use Rattle.replay.specs.inner.Steps.{stepOf}
 use Rattle.replay.specs.inner.Calls.{Between, tookKindOf, endsAt, endsLeft}
-use Rattle.replay.proofs.NextStep.{take-few, Runs, leftAt, endAt, Halts, Does, does-step}
+use Rattle.replay.specs.inner.Stretches.{WrittenOut, endOf, Follows}
+use Rattle.replay.proofs.NextStep.{take-few, leftAt, endAt, Halts, does-step}
+use Rattle.replay.proofs.Feeding.{good-runs}
 
 -- what is left of a call, with the statuses as a list
 abbrev pub leftOf : ReplayedPort → (statuses : List Status) (live cells answers : List ℕ) → Left HeldWith
@@ -92,61 +92,76 @@ module _ {k : Setup} {defaults input room : List ℕ} {s₀ : State} {q₀ : Pro
   abbrev present : State
   present = state dev statuses live cells
 
-  abbrev pub step : Step
-  step = stepOf (progressIn r) (length answers - w) at input
+  abbrev space : ℕ
+  space = length answers - w
 
-  same-room : length answers - w ≡ length room - w
+  abbrev pub step : Step
+  step = stepOf (progressIn r) space at input
+
+  same-room : space ≡ length room - w
   same-room = ap (λ (n : ℕ). n - w) (v .long)
 
-  does : Does k defaults present input (v .bytes) (progressIn r) (length room - w) at step
-  does =
-      subst (λ (n : ℕ). Does k defaults present input (v .bytes) (progressIn r) (length room - w) at (stepOf (progressIn r) n at input)) (sym same-room)
-      (does-step k defaults present input (v .bytes) (progressIn r) (length room - w) at
-      (omega (arith, take-few (r .«stamp_len») (r .stamp), v .between .few)) (v .between .answered) (v .at-in))
+  pub ends : step .runs ≡ false → Halts input (v .bytes) (progressIn r) space at step
+  ends e =
+      does-step input (v .bytes) (progressIn r) space at (omega (arith, take-few (r .«stamp_len») (r .stamp), v .between .few)) (v .between .answered) (v .at-in) .1 e
 
-  pub runs : step .runs ≡ true → Runs k defaults present input (v .bytes) (progressIn r) (length room - w) at step
-  runs e = does .0 e
+  -- A STRETCH HAS RUN: `new` are its answers
+  module _ (x : Stretch) (trace : List ℕ) (f : Follows r space at input x trace) (some : 0 < x .answers) where
+    abbrev pub written : WrittenOut (progressIn r) space at input (progressIn (x .replay)) (x .at) (x .answers) (take (x .len) trace)
+    written = f .runs some .1
 
-  pub ends : step .runs ≡ false → Halts k defaults present input (v .bytes) (progressIn r) (length room - w) at step
-  ends e = does .1 e
+    abbrev pub ran : Ran State
+    ran = runs (device k defaults) present (written .records)
 
-  -- A RECORD'S TURN
-  pub turned : step .runs ≡ true → (dev′ : Dev) (statuses′ : List Status) (live′ cells′ answers′ : List ℕ)
-      → TakesTurn k defaults present (step .«record») answers w (state dev′ statuses′ live′ cells′) answers′
-      → Head k defaults input room s₀ q₀ answers′ dev′ statuses′ live′ cells′ (step .replay) (step .at) (w + 8)
-  turned e dev′ statuses′ live′ cells′ answers′ x =
-      let d = runs e in
-      let y = x (v .good .kept .sound) (v .good .kept .fits) in
-      let t = state dev′ statuses′ live′ cells′ in
-      let a = answerBytes (run k defaults present (step .«record») .reply) in
-      let z : _≡_ {A = Ran State} (record { state = t; answer = a }) (device k defaults .run present (d .whole)) =
-      ran-bytes k defaults present t a (step .«record») (pad longest (d .whole)) (d .whole) (d .item) refl (y .state) refl in
-      let a8 : length a ≡ 8 = ap (λ (u : Ran State). length (u .answer)) z ∙ device k defaults .eight present (d .whole) in
-      let ta : take 8 a ≡ a = rw (← a8) (take-length a) in
-      let n : length room - w - 8 ≡ length room - (w + 8) = omega arith in
-      let m : at + (step .at - at) ≡ step .at = omega (arith, d .from) in
-      record {
-        good = subst (Good k defaults s₀) (sym (ap (λ (u : Ran State). u .state) z)) (good-keeps k defaults s₀ present (d .whole) (d .is) (d .bytes) (v .good));
-        bytes = v .bytes;
-        at-in = d .to;
-        w-in = omega (arith, d .room);
-        long = ap length (y .answer) ∙ length-paste answers w a 8 (omega (arith, v .long, v .w-in, d .room)) (omega arith) ∙ v .long;
-        between = d .after;
-        so-far =
-            v .so-far
-            ∙ ap (later at (take w answers)) (d .goes)
-            ∙ later-later at (step .at - at) (take w answers) (device k defaults .run present (d .whole) .answer)
-            (replayOpen (device k defaults) (carrying (device k defaults .run present (d .whole) .state) []) (progressIn (step .replay)) (length room - w - 8) (drop (step .at) input))
-            ∙ (λ i. later (m i) (take w answers ++ sym z i .answer) (replayOpen (device k defaults) (carrying (sym z i .state) []) (progressIn (step .replay)) (n i) (drop (step .at) input)))
-            ∙ ap (λ (l : List ℕ). later (step .at) l (replayOpen (device k defaults) (carrying t []) (progressIn (step .replay)) (length room - (w + 8)) (drop (step .at) input)))
-            (sym (ap (take (w + 8)) (y .answer) ∙ take-paste answers w a 8 (omega (arith, v .long, v .w-in, d .room)) (omega arith) ∙ ap (λ (l : List ℕ). take w answers ++ l) ta));
-        beyond =
-            ap (drop (w + 8)) (y .answer)
-            ∙ drop-paste answers w a 8 (omega (arith, v .long, v .w-in, d .room)) (omega arith)
-            ∙ sym (drop-drop 8 w answers)
-            ∙ ap (drop 8) (v .beyond)
-            ∙ drop-drop 8 w room;
-      }
+    abbrev pub slice : List ℕ → List ℕ
+    slice new = take w answers ++ (new ++ drop (w + x .answers - w) (drop w answers))
+
+    pub fits : w + x .answers ≤ length answers
+    fits = omega (arith, v .w-in, v .long, written .room)
+
+    module _ (dev′ : Dev) (statuses′ : List Status) (live′ cells′ new : List ℕ) (is : _≡_ {A = Ran State} (record { state = state dev′ statuses′ live′ cells′; answer = new }) ran) where
+      many : length new ≡ x .answers
+      many = ap (λ (u : Ran State). length (u .answer)) is ∙ runs-eight (device k defaults) present (written .records) ∙ sym (written .eight)
+
+      front : length (take w answers ++ new) ≡ w + x .answers
+      front = omega (arith, length-append (take w answers) new, length-take-le w answers (omega (arith, v .w-in, v .long)), many)
+
+      apart : slice new ≡ (take w answers ++ new) ++ drop (w + x .answers) answers
+      apart =
+          let e : w + (w + x .answers - w) ≡ w + x .answers = omega arith in
+          sym (append-assoc (take w answers) new (drop (w + x .answers - w) (drop w answers)))
+          ∙ ap (λ (l : List ℕ). (take w answers ++ new) ++ l) (drop-drop (w + x .answers - w) w answers ∙ ap (λ (n : ℕ). drop n answers) e)
+
+      pub stretched : Head k defaults input room s₀ q₀ (slice new) dev′ statuses′ live′ cells′ (x .replay) (x .at) (w + x .answers)
+      stretched =
+          let D = device k defaults in
+          let o = written in
+          let t = state dev′ statuses′ live′ cells′ in
+          let rest = drop (x .at) input in
+          let n : space - x .answers ≡ length room - (w + x .answers) = omega (arith, v .long) in
+          let m : at + (x .at - at) ≡ x .at = omega (arith, o .from) in
+          let tw : take (w + x .answers) (slice new) ≡ take w answers ++ new = ap (take (w + x .answers)) apart ∙ take-at (take w answers ++ new) (drop (w + x .answers) answers) (w + x .answers) front in
+          record {
+            good = subst (Good k defaults s₀) (sym (ap (λ (u : Ran State). u .state) is)) (good-runs k defaults s₀ present (o .records) (o .wholes) (subst Bytes (o .joined) (o .areBytes)) (v .good));
+            bytes = v .bytes;
+            at-in = o .to;
+            w-in = omega (arith, fits, v .long);
+            long = ap length apart ∙ omega (arith, length-append (take w answers ++ new) (drop (w + x .answers) answers), front, length-drop (w + x .answers) answers, fits, v .long);
+            between = f .runs some .0;
+            so-far =
+                v .so-far
+                ∙ ap (λ (j : ℕ). later at (take w answers) (replayOpen D (carrying present []) (progressIn r) j (drop at input))) (sym same-room)
+                ∙ ap (later at (take w answers)) (o .goes k defaults present)
+                ∙ later-later at (x .at - at) (take w answers) (ran .answer) (replayOpen D (carrying (ran .state) []) (progressIn (x .replay)) (space - x .answers) rest)
+                ∙ (λ i. later (m i) (take w answers ++ sym is i .answer) (replayOpen D (carrying (sym is i .state) []) (progressIn (x .replay)) (n i) rest))
+                ∙ ap (λ (l : List ℕ). later (x .at) l (replayOpen D (carrying t []) (progressIn (x .replay)) (length room - (w + x .answers)) rest)) (sym tw);
+            beyond =
+                ap (drop (w + x .answers)) apart
+                ∙ drop-at (take w answers ++ new) (drop (w + x .answers) answers) (w + x .answers) front
+                ∙ sym (drop-drop (x .answers) w answers)
+                ∙ ap (drop (x .answers)) (v .beyond)
+                ∙ drop-drop (x .answers) w room;
+          }
 
   -- THE CALL'S END: after `at` and w it comes to f, with no more answers
   finish : (f : Replayed State) (x : ReplayedPort) → call k defaults input room s₀ q₀ ≡ later at (take w answers) f → f .answers ≡ []
@@ -163,8 +178,11 @@ module _ {k : Setup} {defaults input room : List ℕ} {s₀ : State} {q₀ : Pro
       (λ i. record { number = n i; consumed = c i; written = (u ∙ sym l) i; held = h i; answers = y i })
       (ap (λ (g : Replayed State). leaves (bench k defaults) g room) (sym e))
 
-  ends-so : step .runs ≡ false → call k defaults input room s₀ q₀ ≡ later at (take w answers) (later (step .at - at) [] (endAt k defaults present input (v .bytes) (progressIn r) (length room - w) at step))
-  ends-so e = v .so-far ∙ ap (later at (take w answers)) (ends e .goes)
+  ends-so : step .runs ≡ false → call k defaults input room s₀ q₀ ≡ later at (take w answers) (later (step .at - at) [] (endAt input (v .bytes) (progressIn r) space at present step))
+  ends-so e =
+      v .so-far
+      ∙ ap (λ (j : ℕ). later at (take w answers) (replayOpen (device k defaults) (carrying present []) (progressIn r) j (drop at input))) (sym same-room)
+      ∙ ap (later at (take w answers)) (ends e .goes k defaults present)
 
   -- with a number of its own
   stopped : step .runs ≡ false → eqb (step .number) 0 ≡ false
@@ -179,11 +197,11 @@ module _ {k : Setup} {defaults input room : List ℕ} {s₀ : State} {q₀ : Pro
 
   -- or what is left begins a record, or none
   left-over : step .runs ≡ false → eqb (step .number) 0 ≡ true
-      → leftOf (endsLeft dev step input w) statuses live cells answers ≡ leaves (bench k defaults) (call k defaults input room s₀ q₀) room
+      → leftOf (endsLeft dev (endOf step) input w) statuses live cells answers ≡ leaves (bench k defaults) (call k defaults input room s₀ q₀) room
   left-over e z =
       let rest = drop (step .at) input in
       let m = endCount rest (next rest) in
-      let f = leftAt k defaults present input (v .bytes) (progressIn r) (length room - w) at step in
+      let f = leftAt input (v .bytes) (progressIn r) space at present step in
       let c : step .at + (m - 0) ≡ at + (step .at - at + m) = omega (arith, ends e .from) in
       let l : m ≡ length (take m rest) = sym (length-take-le m rest (end-few rest .1)) in
       finish (later (step .at - at) [] f) _
@@ -192,15 +210,15 @@ module _ {k : Setup} {defaults input room : List ℕ} {s₀ : State} {q₀ : Pro
       (λ i. heldWith (held (record { dev = dev; carried = pad 16 (take m rest); «carried_len» = l i; broken = eqb (endNumber (next rest)) 31 }) statuses live cells)
       (took (step .replay) (ends e .tidy) m i))
 
-  pub ended : step .runs ≡ false → leftOf (endsAt dev step input w) statuses live cells answers ≡ leaves (bench k defaults) (call k defaults input room s₀ q₀) room
+  pub ended : step .runs ≡ false → leftOf (endsAt dev (endOf step) input w) statuses live cells answers ≡ leaves (bench k defaults) (call k defaults input room s₀ q₀) room
   ended e =
       if-cases (λ (x : ReplayedPort). leftOf x statuses live cells answers ≡ leaves (bench k defaults) (call k defaults input room s₀ q₀) room)
-      (eqb (step .number) 0) (endsLeft dev step input w) _ (left-over e) (stopped e)
+      (eqb (step .number) 0) (endsLeft dev (endOf step) input w) _ (left-over e) (stopped e)
 
   -- no more is consumed than is there, and no more written than there is room for
-  pub ended-few : step .runs ≡ false → (endsAt dev step input w .consumed ≤ length input) × (endsAt dev step input w .written ≤ length room)
+  pub ended-few : step .runs ≡ false → (endsAt dev (endOf step) input w .consumed ≤ length input) × (endsAt dev (endOf step) input w .written ≤ length room)
   ended-few e =
       let rest = drop (step .at) input in
-      if-cases (λ (x : ReplayedPort). (x .consumed ≤ length input) × (x .written ≤ length room)) (eqb (step .number) 0) (endsLeft dev step input w) _
+      if-cases (λ (x : ReplayedPort). (x .consumed ≤ length input) × (x .written ≤ length room)) (eqb (step .number) 0) (endsLeft dev (endOf step) input w) _
       (λ _. (omega (arith, end-few rest .1, length-drop (step .at) input, ends e .to), v .w-in))
       (λ _. (ends e .to, v .w-in))

@@ -6,75 +6,35 @@ use mathlib.Core.List.{List, [], _∷_, _++_, append-nil}
 use native.Mathlib.Omega.{arith}
 use lib.ListN.{length, take, drop, length-append, length-drop}
 use lib.Seq.{drop-drop}
-use lib.Dec.{ltb, leb, eqb}
-use borrow.Author.Tests.{ltb-true, ltb-false, leb-true, leb-false, eqb-true, eqb-false, ne-eqb}
-use Rattle.bits.proofs.Numbers.{four-bytes}
+use lib.Dec.{ltb, eqb}
+use borrow.Author.Tests.{ltb-true, ltb-false, eqb-true, eqb-false, ne-eqb}
 use Rattle.bits.proofs.Bytes.{bytes-take, bytes-drop}
 use Rattle.times.specs.declared.Nanos.{Nanos}
-use Rattle.ticks.specs.Ticks.{difference, wentBack, inNanos}
-use Rattle.trace.specs.Format.{if_then_else_, Bytes, pad, longest, next, complete}
-use Rattle.trace.specs.Bench.{Device}
+use Rattle.trace.specs.Format.{if_then_else_, Bytes, next, complete}
 use Rattle.trace.specs.inner.Gathered.{wholeSize, endNumber, endCount}
 use Rattle.trace.proofs.Tests.{if-cases, if-false}
 use Rattle.trace.proofs.Records.{carrying}
-use Rattle.trace.proofs.Loop.{got-bytes, got-count, got-size, by-gather, next-itself}
+use Rattle.trace.proofs.Loop.{Got, got-bytes, Counted, got-count, by-gather, next-itself}
 use Rattle.readiness.specs.declared.Setup.{Setup}
-use Rattle.records.specs.declared.Record.the-variants.{Advance}
 use Rattle.records.specs.State.{State}
-use Rattle.records.specs.Decode.{four, decode}
 use Rattle.records.specs.Device.{device}
-use Rattle.decode.proofs.Whole.{decode-alone}
-use Rattle.capture.specs.Advances.{Earlier, none, was, stampIn, back, advances, between, due, advance, longestAdvance}
+use Rattle.capture.specs.Advances.{Earlier, stampIn, back, due, advance}
 use Rattle.capture.specs.Replay.{Progress, Replayed, begins, endedWith, moreAnswered, still, later, replayOpen}
 use Rattle.capture.specs.Lent.{progressIn, replayOf}
+use Rattle.capture.specs.Calls.{blank}
 use Rattle.capture.proofs.Advancing.{bytes-advance, advance-whole, due-none}
 use Rattle.capture.proofs.Kept.{read-kept}
 use Rattle.capture.proofs.Steps.{InOrder, AtRecord, tookKind, later-later, stamps, goes-back, kind-01, no-advance-room, one-advance, whole-record, no-record}
 use Rattle.replay_state.specs.inner.Moves.{Tidy, moreBytes}
 use Rattle.replay.specs.declared.Step.{Step}
-use Rattle.replay.specs.inner.Steps.{halts, runsNext, stepAtRecord, stepAtAdvances, stepAfterStamp, stepOf}
+use Rattle.replay.specs.inner.Steps.{halts, runsAdvance, runsRecord, stepBytes, stepAtRecord, stepAtAdvances, stepAfterStamp, stepOf}
 use Rattle.replay.specs.inner.Calls.{Between}
-
--- ---- an advance that is due fits a record 01
-abbrev AllShort : List Nanos → Type 0
-AllShort [] = Unit {0}
-AllShort (t ∷ ts) = (t .0 < 4294967296) × AllShort ts
-
-short-advances : (t : Nanos) → t .0 < 8589934591 → AllShort (advances t)
-unfolding advances
-short-advances t h =
-    if-cases AllShort (eqb (t .0) 0) _ _
-    (λ _. tt)
-    (λ _. if-cases AllShort (leb (t .0) (longestAdvance .0)) _ _ (λ l. (omega (arith, leb-true (t .0) 4294967295 l), tt)) (λ _. (omega arith, (omega arith, tt))))
-
-short-between : (e : Earlier) (stamp : List ℕ) → back e (stampIn stamp) ≡ false → AllShort (between e (stampIn stamp))
-unfolding between back wentBack inNanos
-short-between none stamp h = tt
-short-between (was e) stamp h = short-advances (inNanos (difference e (stampIn stamp))) (omega (arith, leb-false 2147483648 (difference e (stampIn stamp) .0) h))
-
-short-due : (e : Earlier) (stamp : List ℕ) → AllShort (due e stamp)
-unfolding due
-short-due e stamp =
-    if-cases AllShort (eqb (length stamp) 4) _ _ (λ _. if-cases AllShort (back e (stampIn stamp)) _ _ (λ _. tt) (short-between e stamp)) (λ _. tt)
-
-short-drop : (n : ℕ) (ts : List Nanos) → AllShort ts → AllShort (drop n ts)
-short-drop zero ts a = a
-short-drop (suc n) [] a = tt
-short-drop (suc n) (t ∷ ts) a = short-drop n ts (a .1)
-
-short-next : (n : ℕ) (e : Earlier) (stamp : List ℕ) (t : Nanos) (more : List Nanos) → drop n (due e stamp) ≡ t ∷ more → t .0 < 4294967296
-short-next n e stamp t more q = subst AllShort q (short-drop n (due e stamp) (short-due e stamp)) .0
-
--- as a record
-decode-advance : (t : Nanos) → t .0 < 4294967296 → Advance t ≡ decode (pad longest (advance t))
-unfolding decode four advance
-decode-advance t h = ap (λ (n : ℕ). Advance (record { 0 = n })) (sym (four-bytes (t .0) h))
 
 -- ---- the state of a replay as a call leaves it
 pub tidy-kept : (q : Progress) → Tidy (replayOf q)
 tidy-kept q = ap replayOf (sym (read-kept q))
 
-between-kept : (q : Progress) → length (q .stamp) ≤ 4 → q .answered ≤ length (due (q .earlier) (q .stamp)) → Between (replayOf q)
+pub between-kept : (q : Progress) → length (q .stamp) ≤ 4 → q .answered ≤ length (due (q .earlier) (q .stamp)) → Between (replayOf q)
 between-kept q few some =
     record { tidy = tidy-kept q; few = few; answered = subst (λ (p : Progress). q .answered ≤ length (due (p .earlier) (p .stamp))) (sym (read-kept q)) some }
 
@@ -110,30 +70,30 @@ more-due e stamp l a h false t =
     subst (λ (bs : List ℕ). a ≤ length (due e bs)) (sym (ap (λ (n : ℕ). stamp ++ take n l) z ∙ append-nil stamp)) h
 
 -- ---- a step at byte `at` of the input, with q in hand
-module _ (k : Setup) (defaults : List ℕ) (s : State) (input : List ℕ) (inputs : Bytes input) (q : Progress) (space at : ℕ) where
-  abbrev D : Device State
-  D = device k defaults
+module _ (input : List ℕ) (inputs : Bytes input) (q : Progress) (space at : ℕ) where
+  abbrev here : (k : Setup) (defaults : List ℕ) → State → Replayed State
+  here k defaults s = replayOpen (device k defaults) (carrying s []) q space (drop at input)
 
-  abbrev here : Replayed State
-  here = replayOpen D (carrying s []) q space (drop at input)
-
-  -- a record of these bytes runs
-  pub record Runs (step : Step) : Type 0 where
-    pub whole : List ℕ
-    pub is : next whole ≡ complete whole
-    pub bytes : Bytes whole
-    pub item : step .«record» ≡ decode (pad longest whole)
+  -- a record of the bytes w runs
+  pub record RunsOf (w : List ℕ) (step : Step) : Type 0 where
+    pub is : next w ≡ complete w
+    pub bytes : Bytes w
+    pub size : (step .size ≤ 17) × (step .size ≤ step .at)
     pub room : 8 ≤ space
     pub from : at ≤ step .at
     pub to : step .at ≤ length input
     pub after : Between (step .replay)
-    pub goes : here
-        ≡ later (step .at - at) (D .run s whole .answer)
-        (replayOpen D (carrying (D .run s whole .state) []) (progressIn (step .replay)) (space - 8) (drop (step .at) input))
+    pub goes : (k : Setup) (defaults : List ℕ) (s : State)
+        → (let D = device k defaults in
+        here k defaults s
+        ≡ later (step .at - at) (D .run s w .answer) (replayOpen D (carrying (D .run s w .state) []) (progressIn (step .replay)) (space - 8) (drop (step .at) input)))
+
+  abbrev pub Runs : Step → Type 0
+  Runs step = RunsOf (stepBytes step input) step
 
   -- what is left begins a record, or none
-  abbrev pub leftAt : Step → Replayed State
-  leftAt step =
+  abbrev pub leftAt : State → Step → Replayed State
+  leftAt s step =
       let rest = drop (step .at) input in
       let n = endNumber (next rest) in
       let m = endCount rest (next rest) in
@@ -145,8 +105,8 @@ module _ (k : Setup) (defaults : List ℕ) (s : State) (input : List ℕ) (input
         answers = [];
       }
 
-  abbrev pub endAt : Step → Replayed State
-  endAt step = if eqb (step .number) 0 then leftAt step else still (step .number) (carrying s []) (progressIn (step .replay)) []
+  abbrev pub endAt : State → Step → Replayed State
+  endAt s step = if eqb (step .number) 0 then leftAt s step else still (step .number) (carrying s []) (progressIn (step .replay)) []
 
   -- the call ends
   pub record Halts (step : Step) : Type 0 where
@@ -154,77 +114,124 @@ module _ (k : Setup) (defaults : List ℕ) (s : State) (input : List ℕ) (input
     pub from : at ≤ step .at
     pub to : step .at ≤ length input
     pub stamped : step .at < length input → step .replay .«stamp_len» ≡ 4
-    pub goes : here ≡ later (step .at - at) [] (endAt step)
+    pub goes : (k : Setup) (defaults : List ℕ) (s : State) → here k defaults s ≡ later (step .at - at) [] (endAt s step)
 
   abbrev pub Does : Step → Type 0
   Does step = (step .runs ≡ true → Runs step) × (step .runs ≡ false → Halts step)
 
   -- ---- the stamp's bytes are taken: q′ is in hand, and the rest is left
   module _ (q′ : Progress) (at′ : ℕ) (from : at ≤ at′) (to : at′ ≤ length input)
-      (taken : here ≡ later (at′ - at) [] (replayOpen D (carrying s []) q′ space (drop at′ input)))
+      (taken : (k : Setup) (defaults : List ℕ) (s : State) → here k defaults s ≡ later (at′ - at) [] (replayOpen (device k defaults) (carrying s []) q′ space (drop at′ input)))
       (few : length (q′ .stamp) ≤ 4) (some : q′ .answered ≤ length (due (q′ .earlier) (q′ .stamp))) where
     does-halt : (n : ℕ) (q″ : Progress) → (at′ < length input → length (q″ .stamp) ≡ 4)
-        → replayOpen D (carrying s []) q′ space (drop at′ input) ≡ endAt (halts n q″ at′) → Does (halts n q″ at′)
-    does-halt n q″ stamped e =
-        (λ f. absurd (false≢true f), λ _. record { tidy = tidy-kept q″; from = from; to = to; stamped = stamped; goes = taken ∙ ap (later (at′ - at) []) e })
+        → ((k : Setup) (defaults : List ℕ) (s : State) → replayOpen (device k defaults) (carrying s []) q′ space (drop at′ input) ≡ endAt s (halts n q″ at′)) → Does (halts n q″ at′)
+    does-halt n q″ stamped e = (
+      λ f. absurd (false≢true f),
+      λ _. record {
+        tidy = tidy-kept q″;
+        from = from;
+        to = to;
+        stamped = stamped;
+        goes = λ k defaults s. taken k defaults s ∙ ap (later (at′ - at) []) (e k defaults s);
+      },
+    )
 
     -- a record of the bytes w has run, and n more bytes are consumed
-    ran : (w : List ℕ) (n : ℕ) (q″ : Progress) (at″ : ℕ) → at″ - at ≡ at′ - at + n → (rest : List ℕ) → drop at″ input ≡ rest
-        → replayOpen D (carrying s []) q′ space (drop at′ input) ≡ later n (D .run s w .answer) (replayOpen D (carrying (D .run s w .state) []) q″ (space - 8) rest)
-        → here ≡ later (at″ - at) (D .run s w .answer) (replayOpen D (carrying (D .run s w .state) []) (progressIn (replayOf q″)) (space - 8) (drop at″ input))
-    ran w n q″ at″ c rest r e =
+    ran : (k : Setup) (defaults : List ℕ) (s : State) (w : List ℕ) (n : ℕ) (q″ : Progress) (at″ : ℕ) → at″ - at ≡ at′ - at + n → (rest : List ℕ) → drop at″ input ≡ rest
+        → (let D = device k defaults in
+        replayOpen D (carrying s []) q′ space (drop at′ input) ≡ later n (D .run s w .answer) (replayOpen D (carrying (D .run s w .state) []) q″ (space - 8) rest)
+        → here k defaults s ≡ later (at″ - at) (D .run s w .answer) (replayOpen D (carrying (D .run s w .state) []) (progressIn (replayOf q″)) (space - 8) (drop at″ input)))
+    ran k defaults s w n q″ at″ c rest r e =
+        let D = device k defaults in
         let f = replayOpen D (carrying (D .run s w .state) []) q″ (space - 8) rest in
-        taken
+        taken k defaults s
         ∙ ap (later (at′ - at) []) e
         ∙ later-later (at′ - at) n [] (D .run s w .answer) f
         ∙ (λ i. later (sym c i) (D .run s w .answer) (replayOpen D (carrying (D .run s w .state) []) (sym (read-kept q″) i) (space - 8) (sym r i)))
 
     -- with a number of its own
     does-stop : (n : ℕ) (q″ : Progress) → 0 < n → (at′ < length input → length (q″ .stamp) ≡ 4)
-        → replayOpen D (carrying s []) q′ space (drop at′ input) ≡ still n (carrying s []) q″ [] → Does (halts n q″ at′)
+        → ((k : Setup) (defaults : List ℕ) (s : State) → replayOpen (device k defaults) (carrying s []) q′ space (drop at′ input) ≡ still n (carrying s []) q″ []) → Does (halts n q″ at′)
     does-stop n q″ h stamped e =
         does-halt n q″ stamped
-        (e ∙ ap (λ (p : Progress). still n (carrying s []) p []) (sym (read-kept q″)) ∙ sym (if-false (eqb n 0) (leftAt (halts n q″ at′)) _ (ne-eqb n 0 (λ z. omega arith))))
+        (λ k defaults s. e k defaults s
+        ∙ ap (λ (p : Progress). still n (carrying s []) p []) (sym (read-kept q″))
+        ∙ sym (if-false (eqb n 0) (leftAt s (halts n q″ at′)) _ (ne-eqb n 0 (λ z. omega arith))))
 
     -- nothing is left
     does-end : drop at′ input ≡ [] → Does (halts 0 q′ at′)
     unfolding replayOpen next
     does-end e =
         does-halt 0 q′ (λ h. absurd (omega (arith, length-drop at′ input, ap length e)))
-        (rw e (ap (λ (p : Progress). still 0 (carrying s []) p []) (sym (read-kept q′))))
+        (λ k defaults s. rw e (ap (λ (p : Progress). still 0 (carrying s []) p []) (sym (read-kept q′))))
 
     module _ (kind : ℕ) (more : List ℕ) (rest : drop at′ input ≡ kind ∷ more) (stamped : length (q′ .stamp) ≡ 4) where
       -- 32
       does-back : back (q′ .earlier) (stampIn (q′ .stamp)) ≡ true → Does (halts 32 (endedWith 32 q′) at′)
-      does-back b = does-stop 32 (endedWith 32 q′) (omega arith) (λ _. stamped) (rw rest (goes-back D s q′ space kind more stamped b))
+      does-back b =
+          does-stop 32 (endedWith 32 q′) (omega arith) (λ _. stamped) (λ k defaults s. rw rest (goes-back (device k defaults) s q′ space kind more stamped b))
 
       -- 33
       does-01 : back (q′ .earlier) (stampIn (q′ .stamp)) ≡ false → eqb kind 1 ≡ true → Does (halts 33 (endedWith 33 q′) at′)
-      does-01 b o = does-stop 33 (endedWith 33 q′) (omega arith) (λ _. stamped) (rw rest (kind-01 D s q′ space kind more stamped b o))
+      does-01 b o =
+          does-stop 33 (endedWith 33 q′) (omega arith) (λ _. stamped) (λ k defaults s. rw rest (kind-01 (device k defaults) s q′ space kind more stamped b o))
 
       module _ (order : InOrder q′ kind) where
         -- an advance
         does-advance : (t : Nanos) (others : List Nanos) → drop (q′ .answered) (due (q′ .earlier) (q′ .stamp)) ≡ t ∷ others
-            → Does (if ltb space 8 then halts 30 q′ at′ else runsNext (Advance t) (moreAnswered 1 q′) at′)
+            → Does (if ltb space 8 then halts 30 q′ at′ else runsAdvance t (moreAnswered 1 q′) at′)
         does-advance t others e =
             if-cases Does (ltb space 8) _ _
-            (λ h. does-stop 30 q′ (omega arith) (λ _. stamped) (rw rest (no-advance-room D s q′ space kind more order t others e (ltb-true space 8 h))))
+            (λ h. does-stop 30 q′ (omega arith) (λ _. stamped) (λ k defaults s. rw rest (no-advance-room (device k defaults) s q′ space kind more order t others e (ltb-true space 8 h))))
             (λ h. (
               λ _. record {
-                whole = advance t;
                 is = advance-whole t;
                 bytes = bytes-advance t;
-                item = decode-advance t (short-next (q′ .answered) (q′ .earlier) (q′ .stamp) t others e);
+                size = (omega arith, omega arith);
                 room = ltb-false space 8 h;
                 from = from;
                 to = to;
                 after = between-kept (moreAnswered 1 q′) few (omega (arith, length-drop (q′ .answered) (due (q′ .earlier) (q′ .stamp)), ap length e));
                 goes =
-                    ran (advance t) 0 (moreAnswered 1 q′) at′ (omega arith) (drop at′ input) refl
-                    (rw rest (one-advance D s q′ space kind more order t others e (ltb-false space 8 h)));
+                    λ k defaults s. ran k defaults s (advance t) 0 (moreAnswered 1 q′) at′ (omega arith) (drop at′ input) refl
+                    (rw rest (one-advance (device k defaults) s q′ space kind more order t others e (ltb-false space 8 h)));
               },
               λ f. absurd (true≢false f),
             ))
+
+        -- a record
+        module _ (e : drop (q′ .answered) (due (q′ .earlier) (q′ .stamp)) ≡ []) (size : ℕ) (g : Got (drop at′ input) size) (room : 8 ≤ space) where
+          abbrev l : List ℕ
+          l = drop at′ input
+
+          abbrev there : AtRecord q′ l
+          there = record { kind = kind; more = more; bytes = rest; in-order = order; answered = e }
+
+          counts : Counted l size
+          counts = got-count l size g
+
+          is-written : g .whole ≡ stepBytes (runsRecord size (begins q′) (at′ + size)) input
+          is-written =
+              let z : at′ ≡ at′ + size - size = omega arith in
+              got-bytes l size g ∙ ap (λ (n : ℕ). take size (drop n input)) z ∙ sym (if-false (eqb size 0) _ _ (ne-eqb size 0 (λ y. omega (arith, counts .some))))
+
+          does-whole : Runs (runsRecord size (begins q′) (at′ + size))
+          does-whole =
+              subst (λ (w : List ℕ). RunsOf w (runsRecord size (begins q′) (at′ + size))) is-written
+              (record {
+                is = next-itself l (g .whole) (g .is);
+                bytes = rw (got-bytes l size g) (bytes-take size l (bytes-drop at′ input inputs));
+                size = (counts .few, omega arith);
+                room = room;
+                from = omega arith;
+                to = omega (arith, counts .there, length-drop at′ input);
+                after = between-kept (begins q′) (omega arith) (omega arith);
+                goes =
+                    λ k defaults s. let D = device k defaults in
+                    ran k defaults s (g .whole) size (begins q′) (at′ + size) (omega arith) (drop size l) (sym (drop-drop size at′ input))
+                    (whole-record D s q′ space l (g .whole) there (g .is) room
+                    ∙ ap (λ (n : ℕ). later n (D .run s (g .whole) .answer) (replayOpen D (carrying (D .run s (g .whole) .state) []) (begins q′) (space - 8) (drop n l))) (sym (g .count)));
+              })
 
         -- a record, or the end
         does-record : drop (q′ .answered) (due (q′ .earlier) (q′ .stamp)) ≡ [] → Does (stepAtRecord q′ space at′ (drop at′ input))
@@ -232,31 +239,13 @@ module _ (k : Setup) (defaults : List ℕ) (s : State) (input : List ℕ) (input
         does-record e =
             let l = drop at′ input in
             let size = wholeSize space (next l) in
-            let found = by-gather D s space l in
-            let there : AtRecord q′ l = record { kind = kind; more = more; bytes = rest; in-order = order; answered = e } in
+            let n = endNumber (next l) in
+            let m = endCount l (next l) in
             if-cases Does (eqb size 0) _ _
             (λ z. does-halt 0 q′ (λ _. stamped)
-            (no-record D s q′ space l (endNumber (next l)) (endCount l (next l)) there (found .1 (eqb-true size 0 z))
-            ∙ ap (λ (p : Progress). record { bench = record { state = s; carried = take (endCount l (next l)) l; broken = eqb (endNumber (next l)) 31 }; progress = tookKind p (endCount l (next l)); number = endNumber (next l); consumed = endCount l (next l); answers = [] }) (sym (read-kept q′))))
-            (λ z. let g = found .0 (positive size z) in
-            let t = g .0 in
-            let c = got-count l size t in (
-              λ _. record {
-                whole = t .whole;
-                is = next-itself l (t .whole) (t .is);
-                bytes = rw (got-bytes l size t) (bytes-take size l (bytes-drop at′ input inputs));
-                item = decode-alone l size (got-size l size t) (c .some) (c .there) ∙ ap (λ (b : List ℕ). decode (pad longest b)) (sym (got-bytes l size t));
-                room = g .1;
-                from = omega arith;
-                to = omega (arith, c .there, length-drop at′ input);
-                after = between-kept (begins q′) (omega arith) (omega arith);
-                goes =
-                    ran (t .whole) size (begins q′) (at′ + size) (omega arith) (drop size l) (sym (drop-drop size at′ input))
-                    (whole-record D s q′ space l (t .whole) there (t .is) (g .1)
-                    ∙ ap (λ (n : ℕ). later n (D .run s (t .whole) .answer) (replayOpen D (carrying (D .run s (t .whole) .state) []) (begins q′) (space - 8) (drop n l))) (sym (t .count)));
-              },
-              λ f. absurd (true≢false f),
-            ))
+            (λ k defaults s. no-record (device k defaults) s q′ space l n m (record { kind = kind; more = more; bytes = rest; in-order = order; answered = e }) (by-gather (device k defaults) s space l .1 (eqb-true size 0 z))
+            ∙ ap (λ (p : Progress). record { bench = record { state = s; carried = take m l; broken = eqb n 31 }; progress = tookKind p m; number = n; consumed = m; answers = [] }) (sym (read-kept q′))))
+            (λ z. let g = by-gather blank tt space l .0 (positive size z) in (λ _. does-whole e size (g .0) (g .1), λ f. absurd (true≢false f)))
 
       -- the advances that are not answered, or the record
       does-advances : InOrder q′ kind → (ts : List Nanos) → drop (q′ .answered) (due (q′ .earlier) (q′ .stamp)) ≡ ts → Does (stepAtAdvances ts q′ space at′ (kind ∷ more))
@@ -291,9 +280,9 @@ module _ (k : Setup) (defaults : List ℕ) (s : State) (input : List ℕ) (input
       let long : length (q .stamp ++ bs) ≡ length (q .stamp) + n = length-append (q .stamp) bs in
       let d : drop n l ≡ drop (at + n) input = drop-drop n at input in
       does-after (moreBytes bs q) (at + n) (omega arith) (omega (arith, length-drop at input))
-      (ap (λ (z : List ℕ). replayOpen D (carrying s []) q space z) (sym (take-then (4 - length (q .stamp)) l))
-      ∙ stamps D s q space bs (drop n l) (omega arith)
-      ∙ (λ i. later (count n i) [] (replayOpen D (carrying s []) (moreBytes bs q) space (d i))))
+      (λ k defaults s. ap (λ (z : List ℕ). replayOpen (device k defaults) (carrying s []) q space z) (sym (take-then (4 - length (q .stamp)) l))
+      ∙ stamps (device k defaults) s q space bs (drop n l) (omega arith)
+      ∙ (λ i. later (count n i) [] (replayOpen (device k defaults) (carrying s []) (moreBytes bs q) space (d i))))
       (omega arith)
       (more-due (q .earlier) (q .stamp) l (q .answered) some (ltb (length (q .stamp)) 4) refl)
       (drop (at + n) input) refl

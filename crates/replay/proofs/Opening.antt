@@ -5,7 +5,7 @@ use mathlib.Core.Bool.{Bool, true, false}
 use mathlib.Core.List.{List, _++_}
 use native.Mathlib.Omega.{arith}
 use lib.ListN.{length, take}
-use Rattle.trace.specs.Format.{if_then_else_, begun}
+use Rattle.trace.specs.Format.{if_then_else_}
 use Rattle.trace.specs.Outcome.{first}
 use Rattle.trace.specs.Lent.{Lent, Left, unchanged, refusal, refusalOr31}
 use Rattle.trace.proofs.Refusing as trace
@@ -33,7 +33,8 @@ use Rattle.feed.proofs.Lent.{lent-numbers, numbers-lent}
 use Rattle.replay_rules.specs.Replaying.{HeldWith, heldWith, replays as replaysAt}
 use Rattle.replay.specs.declared.ReplayedPort.{ReplayedPort}
 use Rattle.replay.specs.Left.{leftInPlace}
-use Rattle.replay.specs.inner.Calls.{Going, Between, comesTo}
+use Rattle.feed.specs.inner.Calls.{NotRefused}
+use Rattle.replay.specs.inner.Calls.{Between, comesTo}
 use Rattle.replay.proofs.NextStep.{tidy-kept}
 
 -- ---- over any bench
@@ -75,14 +76,9 @@ module _ (setup : Setup) (defaults : List ℕ) (h : HeldWith) (bus : setup .bus 
   relies : Accepted setup defaults (h .port)
   relies = accepted setup defaults (h .port) (unstopped L h e .accepted) bus port
 
-  -- what it relies on
-  pub goes : Going setup defaults (stateOf (h .port))
-  goes =
-      let a = relies in
-      record { codes = a .good .setup; sound = a .good .kept .sound; fits = a .good .kept .fits; perSlot = a .fits .perSlot }
-
-  pub carries : (h .port .port .«carried_len» ≤ 16) × (begun (carriedOf (h .port .port)) ≡ true)
-  carries = (relies .short, relies .begun)
+  -- it is not refused
+  pub goes : NotRefused setup defaults (h .port)
+  goes = unstopped L h e .accepted
 
   abbrev q : Progress
   q = progressIn (h .replay)

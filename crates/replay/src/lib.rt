@@ -1,6 +1,9 @@
-// Replay of captures, by value over the lent slices: each entry's advances and its record run in their turn.
-pub mod running; // the entries of a call
-mod stepping; // what stands next in a call
+// Replay of captures, by value over the lent slices: a stretch of the capture is written out as the trace that it stands for, and its records run
+// in their turn.
+mod running; // the entries of a call
+mod stepping; // an advance or a record that stands next
+mod stretching; // what stands next in a call
+mod writing; // entries, written out
 
 ghost use mathlib.Core.Path.{_≡_};
 ghost use mathlib.Core.List.{List};
@@ -16,13 +19,15 @@ use capture::Replay;
 use readiness::Setup;
 use readiness::Status;
 use records::Port;
-use records::Record;
+use replay_state::Due;
 use replay_state::matching::matches;
 use replay_state::stamps::tidy;
 use running::run_capture;
 use set_up::refusing::refusal;
 use settle::phases::in_numbers;
 use settle::phases::in_statuses;
+use ticks::Stamp;
+use times::Nanos;
 
 // What replay gives, beside the lent slices.
 pub struct Replayed {
@@ -43,14 +48,40 @@ pub struct ReplayedPort {
     pub replay: Replay,
 }
 
-// What stands next in a call, between records: a record that runs, an advance that is due or the next of the capture, with the state of the
+// What stands next, between records: one that runs, an advance that is due (size 0) or the next record of the capture, with the state of the
 // replay after it and how far the input is consumed then; or the call's end, with its number, where 0 leaves it to the bytes that are left.
 pub struct Step {
     pub runs: bool,
     pub number: u8,
-    pub record: Record,
+    pub by: Nanos,
+    pub size: usize,
     pub replay: Replay,
     pub at: usize,
+}
+
+// What stands next in a call: records that have so many bytes as a trace, and so many bytes of answers, with the state of the replay after them and how
+// far the input is consumed then; or, with no answers, the call's end, as a step has it.
+pub struct Stretch {
+    pub number: u8,
+    pub len: usize,
+    pub answers: usize,
+    pub replay: Replay,
+    pub at: usize,
+}
+
+// An entry that can be written out: the size of its record, its stamp and the advances before it. Size 0: it can't.
+pub struct Entry {
+    pub size: usize,
+    pub stamp: Stamp,
+    pub due: Due,
+}
+
+// Entries that were written out: where they end in the input, how many bytes they have as a trace and in answers, and the last one's stamp.
+pub struct Entries {
+    pub at: usize,
+    pub len: usize,
+    pub answers: usize,
+    pub stamp: Stamp,
 }
 
 // The number that is given before a byte is looked at, or 0: 1 to 5, an ended replay's number, 31.

@@ -1,33 +1,27 @@
 // The entries of a call that is not stopped, each in its turn.
 ghost use mathlib.Core.Path.{_≡_};
-ghost use mathlib.Core.Bool.{true};
 ghost use mathlib.Core.List.{[]};
 ghost use Prim.Native.Nat.{_+_, _≤_, _<_};
 ghost use lib.ListN.{length};
 ghost use Rattle.registers.specs.Rows.{masks};
-ghost use Rattle.trace.specs.Format.{begun as begunRecord};
 ghost use Rattle.capture.specs.Lent.{progressIn};
-ghost use Rattle.demand3.specs.Held.{carriedOf};
+ghost use Rattle.demand3.specs.Held.{opened, carriedOf};
+ghost use Rattle.set_up.specs.Lent.{heldIn};
 ghost use Rattle.execute.specs.inner.Lent.{stateIn};
-ghost use Rattle.feed.specs.inner.Calls.{Completes};
+ghost use Rattle.feed.specs.inner.Calls.{NotRefused, Completes};
 ghost use Rattle.replay_state.specs.inner.Moves.{Tidy};
 ghost use Rattle.replay.specs.Left.{leftInPlace};
-ghost use Rattle.replay.specs.inner.Calls.{Going, Between, comesTo, tookKindOf, endsAt, carriedOn};
+ghost use Rattle.replay.specs.inner.Calls.{Between, comesTo, tookKindOf, endsAt, carriedOn};
 use crate::ReplayedPort;
-use crate::Step;
-use crate::stepping::next_step;
+use crate::Stretch;
+use crate::stretching::next_stretch;
+use crate::writing::LONG;
 use capture::Replay;
-use decode::decoding::decode;
 use decode::gathering::first_bytes;
 use decode::gathering::whole_size;
-use feed::choosing::is_card;
-use feed::choosing::slot_of;
-use feed::choosing::turn_of;
 use feed::closing::carry_on;
 use feed::closing::nothing_carried;
-use feed::taking::part_turn;
-use feed::taking::take_turn;
-use feed::turning::card_turn;
+use feed::running::run_input;
 use readiness::Dev;
 use readiness::Setup;
 use records::Port;
@@ -47,22 +41,22 @@ fn took_kind(r: Replay, consumed: usize) -> Replay
 }
 
 // The end of a call, which runs no record more: what is left of the input begins a record, or none.
-fn ending(dev: Dev, step: Step, input: &[u8], w: usize) -> ReplayedPort
-    requires { ⌜ Tidy (step .replay) ⌝ }
-    requires { ⌜ (step .at ≤ length (now input)) × (step .at < length (now input) → step .replay .«stamp_len» ≡ 4) ⌝ }
-    ensures { λ r. ⌜ r ≡ endsAt dev step (now (input .entry)) w ⌝ }
+fn ending(dev: Dev, end: Stretch, input: &[u8], w: usize) -> ReplayedPort
+    requires { ⌜ Tidy (end .replay) ⌝ }
+    requires { ⌜ (end .at ≤ length (now input)) × (end .at < length (now input) → end .replay .«stamp_len» ≡ 4) ⌝ }
+    ensures { λ r. ⌜ r ≡ endsAt dev end (now (input .entry)) w ⌝ }
 {
-    let r = step.replay;
-    if step.number != 0 {
+    let r = end.replay;
+    if end.number != 0 {
         return ReplayedPort {
-            number: step.number,
-            consumed: step.at,
+            number: end.number,
+            consumed: end.at,
             written: w,
             port: nothing_carried(dev),
             replay: r,
         };
     }
-    let at = step.at;
+    let at = end.at;
     let rest = carry_on(nothing_carried(dev), &input[at..]);
     let port = rest.port;
     ReplayedPort {
@@ -74,7 +68,7 @@ fn ending(dev: Dev, step: Step, input: &[u8], w: usize) -> ReplayedPort
     }
 }
 
-// A call with nothing carried: each advance that is due and each whole record runs in its turn, until the call ends.
+// A call with nothing carried: stretch by stretch, each written out as a trace, whose records run in their turn, until the call ends.
 fn run_entries(
     table: &Masks,
     setup: Setup,
@@ -88,68 +82,40 @@ fn run_entries(
     answers: &mut [u8],
 ) -> ReplayedPort
     requires { ⌜ now table ≡ masks ⌝ }
-    requires { ⌜ Going setup (now defaults) (stateIn start (now phases) (now live) (now cells)) ⌝ }
+    requires { ⌜ NotRefused setup (now defaults) (heldIn (opened start) (now phases) (now live) (now cells)) ⌝ }
     requires { ⌜ Between begun ⌝ }
     ensures { λ r. ⌜ leftInPlace r (now (phases .exit)) (now (live .exit)) (now (cells .exit)) (now (answers .exit))
         ≡ comesTo setup (now (defaults .entry)) (stateIn start (now (phases .entry)) (now (live .entry)) (now (cells .entry))) [] (progressIn begun) (now (input .entry)) (now (answers .entry)) ⌝ }
     ensures { λ r. ⌜ (r .consumed ≤ length (now (input .entry))) × (r .written ≤ length (now (answers .entry))) ⌝ }
 {
+    let mut trace = [0u8; LONG];
     let mut dev = start;
-    let mut earliest = times::nanos_of(0);
     let mut r = begun;
     let mut at: usize = 0;
     let mut w: usize = 0;
     loop {
-        let step = next_step(r, input, at, answers.len() - w);
-        if !step.runs {
-            return ending(dev, step, input, w);
+        let s = next_stretch(r, input, at, answers.len() - w, &mut trace);
+        if s.answers == 0 {
+            return ending(dev, s, input, w);
         }
-        let record = step.record;
-        let turn = turn_of(setup.slots, earliest, dev.clock, dev.link, record);
-        let after = step.replay;
-        let next = step.at;
-        let more = w + 8;
-        if is_card(turn) {
-            let x = card_turn(
-                table,
-                setup,
-                dev,
-                phases,
-                record,
-                live,
-                defaults,
-                cells,
-                answers,
-                w,
-            );
-            dev = x.dev;
-            earliest = x.earliest;
-        } else {
-            let slot = slot_of(turn);
-            let entry = setup.entries[slot];
-            let x = part_turn(
-                table,
-                setup.slots,
-                setup.bus,
-                setup.port_id,
-                entry,
-                dev,
-                earliest,
-                phases,
-                live,
-                defaults,
-                cells,
-                record,
-                turn,
-                answers,
-                w,
-            );
-            dev = x.dev;
-            earliest = x.earliest;
-        }
-        r = after;
-        at = next;
-        w = more;
+        let len = s.len;
+        let end = w + s.answers;
+        let fed = run_input(
+            table,
+            setup,
+            dev,
+            &mut *phases,
+            &mut *live,
+            defaults,
+            &mut *cells,
+            &trace[0..len],
+            &mut answers[w..end],
+        );
+        let port = fed.port;
+        dev = port.dev;
+        r = s.replay;
+        at = s.at;
+        w = end;
     }
 }
 
@@ -200,9 +166,9 @@ fn run_joined(
     answers: &mut [u8],
 ) -> ReplayedPort
     requires { ⌜ now table ≡ masks ⌝ }
-    requires { ⌜ Going setup (now defaults) (stateIn (port .dev) (now phases) (now live) (now cells)) ⌝ }
+    requires { ⌜ NotRefused setup (now defaults) (heldIn port (now phases) (now live) (now cells)) ⌝ }
     requires { ⌜ Between begun ⌝ }
-    requires { ⌜ (0 < port .«carried_len») × (port .«carried_len» ≤ 16) × (begunRecord (carriedOf port) ≡ true) ⌝ }
+    requires { ⌜ 0 < port .«carried_len» ⌝ }
     requires { ⌜ Completes port (now input) (length (now answers)) size ⌝ }
     ensures { λ r. ⌜ leftInPlace r (now (phases .exit)) (now (live .exit)) (now (cells .exit)) (now (answers .exit))
         ≡ comesTo setup (now (defaults .entry)) (stateIn (port .dev) (now (phases .entry)) (now (live .entry)) (now (cells .entry))) (carriedOf port) (progressIn begun) (now (input .entry)) (now (answers .entry)) ⌝ }
@@ -212,23 +178,22 @@ fn run_joined(
     let len = port.carried_len;
     let missing = size - len;
     let bytes = first_bytes(&carried, len, input, size);
-    let x = take_turn(
+    let first = run_input(
         table,
         setup,
         dev,
-        times::nanos_of(0),
         &mut *phases,
         &mut *live,
         defaults,
         &mut *cells,
-        decode(bytes),
-        &mut *answers,
-        0,
+        &bytes[0..size],
+        &mut answers[0..8],
     );
+    let between = first.port;
     let rest = run_entries(
         table,
         setup,
-        x.dev,
+        between.dev,
         begun,
         phases,
         live,
@@ -254,9 +219,8 @@ pub fn run_capture(
     answers: &mut [u8],
 ) -> ReplayedPort
     requires { ⌜ now table ≡ masks ⌝ }
-    requires { ⌜ Going setup (now defaults) (stateIn (port .dev) (now phases) (now live) (now cells)) ⌝ }
+    requires { ⌜ NotRefused setup (now defaults) (heldIn port (now phases) (now live) (now cells)) ⌝ }
     requires { ⌜ Between begun ⌝ }
-    requires { ⌜ (port .«carried_len» ≤ 16) × (begunRecord (carriedOf port) ≡ true) ⌝ }
     ensures { λ r. ⌜ leftInPlace r (now (phases .exit)) (now (live .exit)) (now (cells .exit)) (now (answers .exit))
         ≡ comesTo setup (now (defaults .entry)) (stateIn (port .dev) (now (phases .entry)) (now (live .entry)) (now (cells .entry))) (carriedOf port) (progressIn begun) (now (input .entry)) (now (answers .entry)) ⌝ }
 {

@@ -1,4 +1,4 @@
-// What stands next in a call, between records.
+// What stands next, between records: an advance or a record.
 ghost use mathlib.Core.Path.{_≡_};
 ghost use mathlib.Core.List.{List, _∷_};
 ghost use Prim.Native.Nat.{ℕ, _≤_, _<_};
@@ -10,8 +10,7 @@ ghost use Rattle.replay_state.specs.inner.Moves.{Tidy, dueOf};
 ghost use Rattle.replay.specs.inner.Steps.{halts, stepAtAdvances, stepAtRecord, stepAfterStamp, stepOf};
 use crate::Step;
 use capture::Replay;
-use decode::gathering::next_record;
-use records::Record;
+use decode::gathering::whole_size;
 use replay_state::Due;
 use replay_state::advancing::checked;
 use replay_state::advancing::due_of;
@@ -28,7 +27,8 @@ fn halt(number: u8, r: Replay, at: usize) -> Step
     Step {
         runs: false,
         number: number,
-        record: Record::NoKind,
+        by: times::nanos_of(0),
+        size: 0,
         replay: r,
         at: at,
     }
@@ -52,7 +52,8 @@ fn advance_step(r: Replay, due: Due, at: usize, space: usize) -> Step
     Step {
         runs: true,
         number: 0,
-        record: Record::Advance(by),
+        by: by,
+        size: 0,
         replay: one_answered(r),
         at: at,
     }
@@ -64,17 +65,17 @@ fn record_step(r: Replay, input: &[u8], at: usize, space: usize) -> Step
     requires { ⌜ (r .«stamp_len» ≡ 4) × (at ≤ length (now input)) ⌝ }
     ensures { λ s. ⌜ s ≡ stepAtRecord (progressIn r) space at (drop at (now (input .entry))) ⌝ }
 {
-    let found = next_record(input, at, space);
-    if found.size == 0 {
+    let size = whole_size(input, 0, &input[at..], space);
+    if size == 0 {
         return halt(0, r, at);
     }
-    let record = found.record;
     Step {
         runs: true,
         number: 0,
-        record: record,
+        by: times::nanos_of(0),
+        size: size,
         replay: begin_record(r),
-        at: at + found.size,
+        at: at + size,
     }
 }
 

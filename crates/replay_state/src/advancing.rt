@@ -13,7 +13,7 @@ use times::Nanos;
 // The longest advance that one record 01 can say, in nanoseconds.
 const LONGEST: u64 = 4294967295;
 
-fn no_advance() -> Due
+pub fn no_advance() -> Due
     ensures { λ r. ⌜ r ≡ dueOf [] ⌝ }
 {
     Due {
@@ -24,7 +24,7 @@ fn no_advance() -> Due
 }
 
 // None for 0; above 4,294,967,295 ns one of that size comes first, and then the rest.
-fn advances_of(t: Nanos) -> Due
+pub fn advances_of(t: Nanos) -> Due
     ensures { λ r. ⌜ r ≡ dueOf (advances t) ⌝ }
 {
     let n = times::nanos_number(t);

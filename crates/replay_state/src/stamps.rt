@@ -5,7 +5,7 @@ ghost use Prim.Native.Nat.{_+_, _-_, _≤_};
 ghost use lib.ListN.{length, take, drop};
 ghost use Rattle.trace.specs.Format.{pad};
 ghost use Rattle.capture.specs.Advances.{stampIn};
-ghost use Rattle.capture.specs.Replay.{begins, endedWith, moreAnswered, fresh as freshProgress};
+ghost use Rattle.capture.specs.Replay.{begins, endedWith, moreAnswered, fresh as freshProgress, afterEntry};
 ghost use Rattle.capture.specs.Lent.{progressIn, stampFits, replayOf};
 ghost use Rattle.replay_state.specs.inner.Moves.{Tidy, moreBytes};
 use bits::u32_of_u8;
@@ -75,6 +75,14 @@ fn whole_stamp(input: &[u8], at: usize) -> [u8; 4]
     [input[at], input[at + 1], input[at + 2], input[at + 3]]
 }
 
+// The stamp whose four bytes stand in the input from `at` on.
+pub fn stamp_at(input: &[u8], at: usize) -> Stamp
+    requires { ⌜ at + 4 ≤ length (now input) ⌝ }
+    ensures { λ r. ⌜ r ≡ stampIn (take 4 (drop at (now (input .entry)))) ⌝ }
+{
+    stamp_in(whole_stamp(input, at))
+}
+
 // The bytes of the input from `at` on join those of the stamp, byte by byte, until it has four or the input ends.
 fn join_bytes(r: Replay, input: &[u8], at: usize) -> Replay
     requires { ⌜ Tidy r ⌝ }
@@ -137,6 +145,20 @@ pub fn begin_record(r: Replay) -> Replay
         stamp: [0u8; 4],
         answered: 0,
         ended: r.ended,
+    }
+}
+
+// The state between two entries, the first of which has this stamp.
+pub fn after_entry(stamp: Stamp) -> Replay
+    ensures { λ t. ⌜ t ≡ replayOf (afterEntry stamp) ⌝ }
+{
+    Replay {
+        begun: true,
+        earlier: stamp,
+        stamp_len: 0,
+        stamp: [0u8; 4],
+        answered: 0,
+        ended: 0,
     }
 }
 

@@ -1,7 +1,7 @@
 -- How a record takes its turn.
 use Prim.Native.Nat.{ℕ, _<_}
 use mathlib.Core.Path.{_≡_}
-use mathlib.Core.Bool.{Bool, true, false}
+use mathlib.Core.Bool.{Bool, true}
 use mathlib.Core.List.{List}
 use lib.Seq.{paste}
 use Rattle.times.specs.declared.Nanos.{Nanos}
@@ -28,26 +28,6 @@ Takes slots earliest clock link r turn.Port = (setup : Setup) → setup .slots �
 Takes slots earliest clock link r (turn.Frs f) = (r ≡ variants.Message (message.Frs (f .id) (f .reason))) × (link ≡ true)
 Takes slots earliest clock link r (turn.Clock by) = (r ≡ variants.Advance by) × (sumOf clock by .0 < earliest .0)
 Takes slots earliest clock link r turn.Card = (setup : Setup) → setup .slots ≡ slots → partOf setup r ≡ WholeCard
-
--- the whole card takes its turn
-abbrev pub wholeCard : Turn → Bool
-wholeCard turn.Card = true
-wholeCard (turn.Read q) = false
-wholeCard (turn.Write q value) = false
-wholeCard (turn.Hardware i word mask) = false
-wholeCard turn.Port = false
-wholeCard (turn.Frs f) = false
-wholeCard (turn.Clock by) = false
-
--- the slot of a turn, or 0
-abbrev pub slotOf : Turn → ℕ
-slotOf (turn.Read q) = q .slot
-slotOf (turn.Write q value) = q .slot
-slotOf (turn.Hardware i word mask) = i
-slotOf turn.Port = 0
-slotOf (turn.Frs f) = 0
-slotOf (turn.Clock by) = 0
-slotOf turn.Card = 0
 
 -- what a record's turn leaves is what its run leaves, and the answer's 8 bytes stand in the slice for answers, from `at` on
 pub record Turned (setup : Setup) (defaults : List ℕ) (s : State) (r : Record) (answers : List ℕ) (at : ℕ) (t : State) (after : List ℕ) : Type 0 where

@@ -14,7 +14,7 @@ use Rattle.execute.specs.inner.Lent.{stateIn}
 use Rattle.replay_rules.specs.Replaying.{HeldWith, heldWith}
 use Rattle.replay.specs.Left.{leftInPlace}
 use Rattle.replay.specs.inner.Calls.{Between, comesTo}
-use Rattle.replay.proofs.Opening.{replays-no, goes, carries, stands-between, replays-opened, stamp-fits}
+use Rattle.replay.proofs.Opening.{replays-no, goes, stands-between, replays-opened, stamp-fits}
 use Rattle.replay.proofs.replay_in_place.Statement.{statement}
 use Rattle.replay.proofs.replay_in_place.Tie as tie
 
@@ -62,7 +62,7 @@ run-capture-requires c κs =
     let d = now (s .args .defaults) in
     let b = small s in
     let n = open-call e in
-    (c .before .before .before .before .before .before .attributes .ensures, (goes k d (held s) (b .0) (b .1) n, (subst Between (sym (c .before .before .before .before .tidy .ensures)) (stands-between k d (held s) (b .0) (b .1) n), carries k d (held s) (b .0) (b .1) n)))
+    (c .before .before .before .before .before .before .attributes .ensures, (goes k d (held s) (b .0) (b .1) n, subst Between (sym (c .before .before .before .before .tidy .ensures)) (stands-between k d (held s) (b .0) (b .1) n)))
 
 same-length-3 : tie.Need-same-length-3
 same-length-3 c = search needs

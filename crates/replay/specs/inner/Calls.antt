@@ -1,7 +1,6 @@
 -- A call by its parts.
 use Prim.Native.Nat.{ℕ, _+_, _≤_}
 use mathlib.Core.Bool.{false}
-use mathlib.Core.Path.{_≡_}
 use mathlib.Core.List.{List}
 use lib.ListN.{length, drop}
 use lib.Dec.{eqb}
@@ -12,8 +11,6 @@ use Rattle.readiness.specs.declared.Dev.{Dev}
 use Rattle.records.specs.declared.Port.{Port}
 use Rattle.records.specs.State.{State}
 use Rattle.records.specs.Device.{device}
-use Rattle.records.specs.Sound.{Sound, Fitting}
-use Rattle.records.specs.StaysSound.{SoundSetup}
 use Rattle.capture.specs.declared.Replay.{Replay}
 use Rattle.capture.specs.Advances.{due}
 use Rattle.capture.specs.Replay.{Progress, begins, replayOpen}
@@ -23,15 +20,8 @@ use Rattle.demand3.specs.Feeding.{bench}
 use Rattle.feed.specs.inner.Calls.{carriesOn}
 use Rattle.replay_state.specs.inner.Moves.{Tidy}
 use Rattle.replay_rules.specs.Replaying.{HeldWith}
-use Rattle.replay.specs.declared.Step.{Step}
+use Rattle.replay.specs.declared.Stretch.{Stretch}
 use Rattle.replay.specs.declared.ReplayedPort.{ReplayedPort}
-
--- what a call relies on that no number stops: the set-up's codes, a sound state, and lengths that fit
-pub record Going (setup : Setup) (defaults : List ℕ) (s : State) : Type 0 where
-  pub codes : SoundSetup setup
-  pub sound : Sound setup s
-  pub fits : Fitting setup defaults s
-  pub perSlot : length (s .statuses) ≡ setup .slots
 
 -- the state of a replay between records, as a call leaves it: at most 4 stamp bytes, and no more advances answered than are due
 pub record Between (r : Replay) : Type 0 where
@@ -49,17 +39,17 @@ abbrev pub tookKindOf : Replay → (consumed : ℕ) → Replay
 tookKindOf r consumed = if eqb consumed 0 then r else replayOf (begins (progressIn r))
 
 -- what is left of the input begins a record, or none
-abbrev pub endsLeft : Dev → Step → (input : List ℕ) → (w : ℕ) → ReplayedPort
-endsLeft dev step input w =
-    let x = carriesOn (opened dev) (drop (step .at) input) in
-    record { number = x .number; consumed = step .at + x .consumed; written = w; port = x .port; replay = tookKindOf (step .replay) (x .consumed) }
+abbrev pub endsLeft : Dev → Stretch → (input : List ℕ) → (w : ℕ) → ReplayedPort
+endsLeft dev end input w =
+    let x = carriesOn (opened dev) (drop (end .at) input) in
+    record { number = x .number; consumed = end .at + x .consumed; written = w; port = x .port; replay = tookKindOf (end .replay) (x .consumed) }
 
--- THE END OF A CALL at a step that runs no record, with w bytes written
-abbrev pub endsAt : Dev → Step → (input : List ℕ) → (w : ℕ) → ReplayedPort
-endsAt dev step input w =
-    if eqb (step .number) 0
-    then endsLeft dev step input w
-    else record { number = step .number; consumed = step .at; written = w; port = opened dev; replay = step .replay }
+-- THE END OF A CALL, which runs no record more, with w bytes written
+abbrev pub endsAt : Dev → Stretch → (input : List ℕ) → (w : ℕ) → ReplayedPort
+endsAt dev end input w =
+    if eqb (end .number) 0
+    then endsLeft dev end input w
+    else record { number = end .number; consumed = end .at; written = w; port = opened dev; replay = end .replay }
 
 -- what a call gives with bytes carried, that completes no record
 abbrev pub carriedOn : Port → Replay → (input : List ℕ) → ReplayedPort

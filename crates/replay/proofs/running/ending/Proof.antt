@@ -27,8 +27,8 @@ nothing-carried-requires c κs = search needs
 returns : tie.Need-returns
 returns c =
     let a = c .before .before .before .before .before .args in
-    ap {B = ReplayedPort} (λ (p : Port). record { number = a .step .number; consumed = a .step .at; written = a .w; port = p; replay = a .step .replay }) (c .nothing-carried .ensures)
-    ∙ sym (if-false (eqb (a .step .number) 0) _ _ (ne-eqb (a .step .number) 0 (c .before .if1 .taken)))
+    ap {B = ReplayedPort} (λ (p : Port). record { number = a .end .number; consumed = a .end .at; written = a .w; port = p; replay = a .end .replay }) (c .nothing-carried .ensures)
+    ∙ sym (if-false (eqb (a .end .number) 0) _ _ (ne-eqb (a .end .number) 0 (c .before .if1 .taken)))
 
 nothing-carried-requires-2 : tie.Need-nothing-carried-requires-2
 nothing-carried-requires-2 c κs = search needs
@@ -50,18 +50,18 @@ abbrev start : tie.After-carry-on → tie.Start
 start c = c .before .before .before .before .before .before .before
 
 abbrev left : tie.After-carry-on → List ℕ
-left c = drop (start c .args .step .at) (now (start c .args .input))
+left c = drop (start c .args .end .at) (now (start c .args .input))
 
 carries : (c : tie.After-carry-on) → c .carry-on .result ≡ carriesOn (opened (start c .args .dev)) (left c)
 carries c = c .carry-on .ensures ∙ (λ i. carriesOn (c .before .before .nothing-carried2 .ensures i) (left-is i))
   where
-    left-is : take (length (now (start c .args .input)) - start c .args .step .at) (left c) ≡ left c
-    left-is = ap (λ (n : ℕ). take n (left c)) (sym (length-drop (start c .args .step .at) (now (start c .args .input)))) ∙ take-length (left c)
+    left-is : take (length (now (start c .args .input)) - start c .args .end .at) (left c) ≡ left c
+    left-is = ap (λ (n : ℕ). take n (left c)) (sym (length-drop (start c .args .end .at) (now (start c .args .input)))) ∙ take-length (left c)
 
 -- no more is consumed than is left
-few : (c : tie.After-carry-on) → c .carry-on .result .consumed ≤ length (now (start c .args .input)) - start c .args .step .at
+few : (c : tie.After-carry-on) → c .carry-on .result .consumed ≤ length (now (start c .args .input)) - start c .args .end .at
 few c =
-    omega (arith, ap (λ (x : FedPort). x .consumed) (carries c), end-few (left c) .1, length-drop (start c .args .step .at) (now (start c .args .input)))
+    omega (arith, ap (λ (x : FedPort). x .consumed) (carries c), end-few (left c) .1, length-drop (start c .args .end .at) (now (start c .args .input)))
 
 add-t13 : tie.Need-add-t13
 add-t13 c =
@@ -80,14 +80,14 @@ returns-2 c =
     let a = s .args in
     ap {B = ReplayedPort} (λ (t : Replay). record {
       number = c .before .before .before .carry-on .result .number;
-      consumed = a .step .at + c .before .before .before .carry-on .result .consumed;
+      consumed = a .end .at + c .before .before .before .carry-on .result .consumed;
       written = a .w;
       port = c .before .before .before .carry-on .result .port;
       replay = t;
     }) (c .took-kind .ensures)
-    ∙ ap {B = ReplayedPort} (λ (x : FedPort). record { number = x .number; consumed = a .step .at + x .consumed; written = a .w; port = x .port; replay = tookKindOf (a .step .replay) (x .consumed) })
+    ∙ ap {B = ReplayedPort} (λ (x : FedPort). record { number = x .number; consumed = a .end .at + x .consumed; written = a .w; port = x .port; replay = tookKindOf (a .end .replay) (x .consumed) })
     (carries (c .before .before .before))
-    ∙ sym (if-true (eqb (a .step .number) 0) _ _ (eq-eqb (a .step .number) 0 (omega (arith, c .before .before .before .before .before .before .if1 .left))))
+    ∙ sym (if-true (eqb (a .end .number) 0) _ _ (eq-eqb (a .end .number) 0 (omega (arith, c .before .before .before .before .before .before .if1 .left))))
 
 pub ending-spec : {M : Type 1} → statement M
 ending-spec =

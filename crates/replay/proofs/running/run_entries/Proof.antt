@@ -1,214 +1,232 @@
--- `replay::running::run_entries` meets its contract. The invariant is Looping's `Head`, and that no slot becomes Ready before `earliest`.
+-- `replay::running::run_entries` meets its contract. The invariant is Looping's `Head`.
 -- Written by `tools/paths --write replay running/run_entries`.
-use Prim.Native.Nat.{ℕ, _+_, _-_, _≤_, _<_}
+use Prim.Native.Nat.{ℕ, _+_, _-_, _*_, _≤_, _<_}
 use native.Mathlib.Omega.{arith}
+use native.Mathlib.Nat.{sub-zero}
 use mathlib.Core.Path.{_≡_, refl, sym, ap, _∙_, subst}
-use mathlib.Core.Bool.{Bool, true, false, not}
-use mathlib.Core.List.{List}
-use lib.ListN.{length}
+use mathlib.Core.Bool.{false}
+use mathlib.Core.List.{List, []}
+use lib.ListN.{length, take, drop, length-drop, length-replicate}
+use lib.Seq.{length-take-le}
 use denote.Ref.{now}
 use borrow.Author.Needs.{needs}
 use Rattle.bits.proofs.Bytes.{bytes-of}
-use Rattle.times.specs.declared.Nanos.{Nanos}
-use Rattle.readiness.specs.declared.Status.{Status}
-use Rattle.readiness.specs.declared.Dev.{Dev}
-use Rattle.readiness.specs.Status.{entryOf}
+use Rattle.trace.specs.Bench.{Ran}
+use Rattle.trace.specs.Lent.{Left, refusalOr31}
+use Rattle.trace.specs.Exactly.{joinedUp}
+use Rattle.trace.proofs.Records.{carrying}
 use Rattle.readiness.specs.inner.Phases.{statusesIn}
-use Rattle.readiness.specs.inner.Earliest.{ReadyFrom}
-use Rattle.records.specs.State.{state}
+use Rattle.records.specs.State.{State, state}
 use Rattle.capture.specs.Lent.{progressIn}
 use Rattle.execute.specs.inner.Lent.{stateIn}
-use Rattle.trace.specs.Lent.{Left}
-use Rattle.feed.specs.inner.Turns.{TakesTurn}
-use Rattle.feed.proofs.Slots.{card-whole, slot-few}
-use Rattle.feed.proofs.Direct.{bound-zero}
+use Rattle.demand3.specs.Held.{Held, opened, stateOf, heldOf}
+use Rattle.demand3.specs.Feeding.{bench, feeds}
+use Rattle.set_up.specs.Lent.{heldIn}
+use Rattle.feed.specs.Left as feed
+use Rattle.feed.proofs.Accepting.{Accepted, accepted}
+use Rattle.feed.proofs.Carried.{open-accepted}
 use Rattle.replay_state.specs.inner.Moves.{Tidy}
 use Rattle.replay_rules.specs.Replaying.{HeldWith}
-use Rattle.replay.specs.declared.Step.{Step}
+use Rattle.replay.specs.declared.Stretch.{Stretch}
 use Rattle.replay.specs.declared.ReplayedPort.{ReplayedPort}
 use Rattle.replay.specs.inner.Calls.{endsAt}
-use Rattle.replay.proofs.Looping.{leftOf, Head, starts, step, runs, ends, turned, ended, ended-few}
-use Rattle.replay.proofs.Joining.{going-good}
+use Rattle.replay.specs.inner.Stretches.{endOf, Follows}
+use Rattle.replay.proofs.Feeding.{fed-wholes}
+use Rattle.replay.proofs.Looping.{leftOf, Head, starts, step, ends, written, ran, fits, stretched, ended, ended-few}
 use Rattle.replay.proofs.running.run_entries.Statement.{statement}
 use Rattle.replay.proofs.running.run_entries.Tie as tie
 
 abbrev Inv-loop : tie.InvT-loop
-Inv-loop table phases₀ live₀ defaults cells₀ input answers₀ setup dev₀ earliest₀ r₀ at₀ w₀ phases live cells answers dev earliest r at w =
+Inv-loop table setup phases₀ live₀ defaults cells₀ input answers₀ trace₀ dev₀ r₀ at₀ w₀ phases live cells answers trace dev r at w =
     Head setup defaults input answers₀ (state dev₀ (statusesIn phases₀) live₀ cells₀) (progressIn r₀) answers dev (statusesIn phases) live cells r at w
-    × ReadyFrom earliest (statusesIn phases)
     × (length phases ≡ length phases₀)
+    × (length trace ≡ 4096)
 
 abbrev μ-loop : tie.MeasureT-loop
-μ-loop table phases₀ live₀ defaults cells₀ input answers₀ setup dev₀ earliest₀ r₀ at₀ w₀ phases live cells answers dev earliest r at w = length answers₀ - w
+μ-loop table setup phases₀ live₀ defaults cells₀ input answers₀ trace₀ dev₀ r₀ at₀ w₀ phases live cells answers trace dev r at w = length answers₀ - w
 
 abbrev entry : tie.At-loop Inv-loop μ-loop → tie.Start Inv-loop μ-loop
-entry c = c .before .before .before .before .before .before .before .before
+entry c = c .before .before .before .before .before .before .before
+
+-- what the call is lent, which is not refused
+abbrev lent : tie.Start Inv-loop μ-loop → Held
+lent c = heldIn (opened (c .args .start)) (now (c .args .phases)) (now (c .args .live)) (now (c .args .cells))
+
+relies : (c : tie.Start Inv-loop μ-loop) → Accepted (c .args .setup) (now (c .args .defaults)) (lent c)
+relies c = accepted (c .args .setup) (now (c .args .defaults)) (lent c) (c .pre .1 .0) (search needs) (search needs)
 
 -- no slice is longer than memory
 small : (c : tie.At-loop Inv-loop μ-loop) → length (now (entry c .args .answers)) < 9223372036854775808
 small c = let g = entry c .good .1 .1 .1 .1 .1 .1 .1 .1 in omega (arith, g .1 .0 .1)
 
--- ---- what stands next
-not-true : (b : Bool) → not b ≡ true → b ≡ false
-not-true true e = sym e
-not-true false e = refl
-
-not-false : (b : Bool) → not b ≡ false → b ≡ true
-not-false true e = refl
-not-false false e = sym e
-
-next-is : (c : tie.After-next-step Inv-loop μ-loop) → c .next-step .result ≡ step (c .before .loop .inv .0)
-next-is c = c .next-step .ensures
-
-runs-not : (c : tie.Then1 Inv-loop μ-loop) → step (c .before .before .before .loop .inv .0) .runs ≡ false
-runs-not c = sym (ap (λ (t : Step). t .runs) (next-is (c .before .before))) ∙ not-true (c .before .before .next-step .result .runs) (c .if1 .taken)
-
-does-run : (c : tie.Else1 Inv-loop μ-loop) → step (c .before .before .before .loop .inv .0) .runs ≡ true
-does-run c = sym (ap (λ (t : Step). t .runs) (next-is (c .before .before))) ∙ not-false (c .before .before .next-step .result .runs) (c .if1 .left)
-
--- ---- the needs
-nanos-of-requires : tie.Need-nanos-of-requires Inv-loop μ-loop
-nanos-of-requires c κs = search needs
-
 loop-holds : tie.Need-loop-holds Inv-loop μ-loop
 loop-holds c =
-    let s = c .before .before .before .before .before .before .before in
+    let s = c .before .before .before .before .before .before in
     let a = s .args in (
-      starts (a .t2) (now (a .defaults)) (now (a .input)) (now (a .answers)) (stateIn (a .start) (now (a .phases)) (now (a .live)) (now (a .cells))) (progressIn (a .begun))
-          (going-good (a .t2) (now (a .defaults)) (stateIn (a .start) (now (a .phases)) (now (a .live)) (now (a .cells))) (s .pre .1 .0)) (bytes-of (now (a .input)) (λ i h. omega (arith, c .before .before .shared-slice-known2 .given i))) (a .begun) (s .pre .1 .1) refl,
-      subst (λ (m : Nanos). ReadyFrom m (statusesIn (now (a .phases)))) (sym (c .nanos-of .ensures)) (bound-zero (statusesIn (now (a .phases)))),
+      starts (a .setup) (now (a .defaults)) (now (a .input)) (now (a .answers)) (stateIn (a .start) (now (a .phases)) (now (a .live)) (now (a .cells))) (progressIn (a .begun))
+          (relies s .good) (bytes-of (now (a .input)) (λ i h. omega (arith, c .before .shared-slice-known2 .given i))) (a .begun) (s .pre .1 .1) refl,
       refl,
+      length-replicate {A = ℕ} 4096 0,
     )
 
-sub-next-step : tie.Need-sub-next-step Inv-loop μ-loop
-sub-next-step c = let v = c .loop .inv .0 in omega (arith, v .w-in, v .long)
+sub-next-stretch : tie.Need-sub-next-stretch Inv-loop μ-loop
+sub-next-stretch c = let v = c .loop .inv .0 in omega (arith, v .w-in, v .long)
 
-next-step-requires : tie.Need-next-step-requires Inv-loop μ-loop
-next-step-requires c κs = let v = c .loop .inv .0 in (v .between .tidy, (v .between .few, v .at-in))
+slice-aggregate-next-stretch : tie.Need-slice-aggregate-next-stretch Inv-loop μ-loop
+slice-aggregate-next-stretch c = sym (c .before .loop .inv .2)
+
+next-stretch-requires : tie.Need-next-stretch-requires Inv-loop μ-loop
+next-stretch-requires c κs = let l = c .before .loop in let v = l .inv .0 in (v .between, (v .at-in, omega (arith, l .inv .2)))
+
+-- ---- what stands next
+module _ (c : tie.After-next-stretch Inv-loop μ-loop) where
+  abbrev head : tie.At-loop Inv-loop μ-loop
+  head = c .before .before
+
+  abbrev next : Stretch
+  next = c .next-stretch .result
+
+  abbrev trace : List ℕ
+  trace = c .next-stretch .last .1 .1 .1 .1 .0
+
+  follows : Follows (head .loop .r) (length (head .loop .answers) - head .loop .w) (head .loop .at) (now (entry head .args .input)) next trace
+  follows = c .next-stretch .ensures
+
+-- the bytes of a trace stay as many
+long : (c : tie.After-trace2 Inv-loop μ-loop) → length (trace (c .before)) ≡ 4096
+long c = omega (arith, c .trace2 .given, head (c .before) .loop .inv .2)
+
+-- the call ends
+halts : (c : tie.Then1 Inv-loop μ-loop) → let n = c .before .before .before in
+    let t = step (head n .loop .inv .0) in
+    (t .runs ≡ false) × (next n ≡ endOf t)
+halts c = let n = c .before .before .before in follows n .ends (c .if1 .taken)
 
 ending-requires : tie.Need-ending-requires Inv-loop μ-loop
 ending-requires c κs =
-    let l = c .before .before .before in
-    let v = l .loop .inv .0 in
-    let h = ends v (runs-not c) in
+    let l = head (c .before .before .before) in
+    let e = halts c in
+    let h = ends (l .loop .inv .0) (e .0) in
     let input = now (entry l .args .input) in
-    subst (λ (t : Step). Tidy (t .replay) × ((t .at ≤ length input) × (t .at < length input → t .replay .«stamp_len» ≡ 4))) (sym (next-is (c .before .before))) (h .tidy, (h .to, h .stamped))
+    subst (λ (t : Stretch). Tidy (t .replay) × ((t .at ≤ length input) × (t .at < length input → t .replay .«stamp_len» ≡ 4))) (sym (e .1)) (h .tidy, (h .to, h .stamped))
 
 same-length : tie.Need-same-length Inv-loop μ-loop
-same-length c = c .before .before .before .before .loop .inv .2
+same-length c = c .before .before .before .before .before .before .loop .inv .1
 
 same-length-2 : tie.Need-same-length-2 Inv-loop μ-loop
-same-length-2 c = c .before .before .before .before .loop .inv .0 .good .kept .live
+same-length-2 c = c .before .before .before .before .before .before .loop .inv .0 .good .kept .live
 
 same-length-3 : tie.Need-same-length-3 Inv-loop μ-loop
-same-length-3 c = c .before .before .before .before .loop .inv .0 .good .kept .cells
+same-length-3 c = c .before .before .before .before .before .before .loop .inv .0 .good .kept .cells
 
 same-length-4 : tie.Need-same-length-4 Inv-loop μ-loop
-same-length-4 c = c .before .before .before .before .loop .inv .0 .long
+same-length-4 c = c .before .before .before .before .before .before .loop .inv .0 .long
 
 -- what the end gives
-ends-as : (c : tie.After-ending Inv-loop μ-loop) → let l = c .before .before .before .before in c .ending .result ≡ endsAt (l .loop .dev) (step (l .loop .inv .0)) (now (entry l .args .input)) (l .loop .w)
-ends-as c = let l = c .before .before .before .before in c .ending .ensures ∙ ap (λ (t : Step). endsAt (l .loop .dev) t (now (entry l .args .input)) (l .loop .w)) (next-is (c .before .before .before))
+ends-as : (c : tie.After-ending Inv-loop μ-loop) → let l = c .before .before .before .before .before .before in c .ending .result ≡ endsAt (l .loop .dev) (endOf (step (l .loop .inv .0))) (now (entry l .args .input)) (l .loop .w)
+ends-as c = let l = c .before .before .before .before .before .before in c .ending .ensures ∙ ap (λ (t : Stretch). endsAt (l .loop .dev) t (now (entry l .args .input)) (l .loop .w)) (halts (c .before) .1)
 
 returns : tie.Need-returns Inv-loop μ-loop
 returns c =
-    let o = c .before .before .before .before .loop in
-    let input = now (entry (c .before .before .before .before) .args .input) in
-    let room = now (entry (c .before .before .before .before) .args .answers) in (
-      _∙_ {A = Left HeldWith}
-          (ap (λ (x : ReplayedPort). leftOf x (statusesIn (o .phases)) (o .live) (o .cells) (o .answers)) (ends-as c))
-          (ended (o .inv .0) (runs-not (c .before))),
-      subst (λ (x : ReplayedPort). (x .consumed ≤ length input) × (x .written ≤ length room)) (sym (ends-as c)) (ended-few (o .inv .0) (runs-not (c .before))),
+    let l = c .before .before .before .before .before .before in
+    let o = l .loop in
+    let input = now (entry l .args .input) in
+    let room = now (entry l .args .answers) in
+    let h = halts (c .before) .0 in (
+      _∙_ {A = Left HeldWith} (ap (λ (x : ReplayedPort). leftOf x (statusesIn (o .phases)) (o .live) (o .cells) (o .answers)) (ends-as c)) (ended (o .inv .0) h),
+      subst (λ (x : ReplayedPort). (x .consumed ≤ length input) × (x .written ≤ length room)) (sym (ends-as c)) (ended-few (o .inv .0) h),
     )
 
-turn-of-requires : tie.Need-turn-of-requires Inv-loop μ-loop
-turn-of-requires c κs = tt
+-- ---- records run
+module _ (c : tie.Else1 Inv-loop μ-loop) where
+  abbrev at-next : tie.After-next-stretch Inv-loop μ-loop
+  at-next = c .before .before .before
 
--- there is room for an answer
-fits : (c : tie.Else1 Inv-loop μ-loop) → c .before .before .before .loop .w + 8 ≤ length (c .before .before .before .loop .answers)
-fits c = let v = c .before .before .before .loop .inv .0 in omega (arith, v .w-in, v .long, runs v (does-run c) .room)
+  some : 0 < next at-next .answers
+  some = omega (arith, c .if1)
 
-less : (c : tie.Else1 Inv-loop μ-loop) → let l = c .before .before .before in length (now (entry l .args .answers)) - (l .loop .w + 8) < length (now (entry l .args .answers)) - l .loop .w
-less c = omega (arith, runs (c .before .before .before .loop .inv .0) (does-run c) .room)
+  -- there is room for their answers
+  room : head at-next .loop .w + next at-next .answers ≤ length (head at-next .loop .answers)
+  room = fits (head at-next .loop .inv .0) (next at-next) (trace at-next) (follows at-next) some
 
--- the record's turn keeps what holds at the head
-keeps : (c : tie.Else1 Inv-loop μ-loop) → (dev : Dev) (statuses : List Status) (live cells answers : List ℕ)
-    → (let l = c .before .before .before in
-    let a = entry l .args in
-    let t = c .before .before .next-step .result in
-    TakesTurn (a .t2) (now (a .defaults)) (stateIn (l .loop .dev) (l .loop .phases) (l .loop .live) (l .loop .cells)) (t .«record») (l .loop .answers) (l .loop .w) (state dev statuses live cells) answers
-    → Head (a .t2) (now (a .defaults)) (now (a .input)) (now (a .answers)) (stateIn (a .start) (now (a .phases)) (now (a .live)) (now (a .cells))) (progressIn (a .begun)) answers dev statuses live cells (t .replay) (t .at) (l .loop .w + 8))
-keeps c dev statuses live cells answers x =
-    let l = c .before .before .before in
-    let o = l .loop in
-    let a = entry l .args in
-    let n = next-is (c .before .before) in
-    subst (λ (t : Step). Head (a .t2) (now (a .defaults)) (now (a .input)) (now (a .answers)) (stateIn (a .start) (now (a .phases)) (now (a .live)) (now (a .cells))) (progressIn (a .begun)) answers dev statuses live cells (t .replay) (t .at) (o .w + 8))
-    (sym n)
-    (turned (o .inv .0) (does-run c) dev statuses live cells answers
-    (subst (λ (t : Step). TakesTurn (a .t2) (now (a .defaults)) (stateIn (o .dev) (o .phases) (o .live) (o .cells)) (t .«record») (o .answers) (o .w) (state dev statuses live cells) answers) n x))
+  few : next at-next .len ≤ length (trace at-next)
+  few = follows at-next .few
 
--- each slot has its status
-length-statuses : (c : tie.At-loop Inv-loop μ-loop) → length (statusesIn (c .loop .phases)) ≡ entry c .args .t2 .slots
-length-statuses c = c .loop .inv .0 .good .kept .statuses ∙ entry c .pre .1 .0 .perSlot
+  abbrev present : State
+  present = let o = head at-next .loop in stateIn (o .dev) (o .phases) (o .live) (o .cells)
 
-add-more : tie.Need-add-more Inv-loop μ-loop
-add-more c = let l = c .before .before .before .before .before in omega (arith, small l, l .loop .inv .0 .w-in)
+  -- the port is not refused
+  not-refused : refusalOr31 (bench (entry (head at-next) .args .setup) (now (entry (head at-next) .args .defaults))) (heldOf (carrying present [])) ≡ 0
+  not-refused =
+      let s = entry (head at-next) in
+      let k = head at-next .loop .inv .0 .good .kept in
+      open-accepted (s .args .setup) (now (s .args .defaults)) (lent s) (s .pre .1 .0) present (k .statuses) (k .live) (k .cells) (k .sound)
 
-is-card-requires : tie.Need-is-card-requires Inv-loop μ-loop
-is-card-requires c κs = tt
+add-end : tie.Need-add-end Inv-loop μ-loop
+add-end c = let e = c .before in let l = head (at-next e) in omega (arith, small l, room e, l .loop .inv .0 .long)
 
-card-turn-requires : tie.Need-card-turn-requires Inv-loop μ-loop
-card-turn-requires c κs =
-    let l = c .before .before .before .before .before .before .before .before .before .before .before in
-    let f = l .loop .inv .0 .good .kept .fits in
-    (entry l .pre .0, (f .most, length-statuses l, omega (arith, f .words), fits (c .before .before .before .before .before .before .before .before)))
+sub-run-input : tie.Need-sub-run-input Inv-loop μ-loop
+sub-run-input c = omega arith
 
-slot-of-requires : tie.Need-slot-of-requires Inv-loop μ-loop
-slot-of-requires c κs = tt
+part-run-input-start : tie.Need-part-run-input-start Inv-loop μ-loop
+part-run-input-start c = omega arith
 
-few : (c : tie.After-slot-of Inv-loop μ-loop) → c .slot-of .result < 32
-few c =
-    subst (λ (n : ℕ). n < 32) (sym (c .slot-of .ensures))
-    (slot-few _ _ _ _ _ (c .before .before .before .before .before .before .before .before .loop .inv .0 .good .kept .fits .most) (c .before .before .before .before .turn-of .result) (c .before .before .before .before .turn-of .ensures))
+part-run-input-end : tie.Need-part-run-input-end Inv-loop μ-loop
+part-run-input-end c = few (c .before .before .before .before .before)
 
-mul-entry : tie.Need-mul-entry Inv-loop μ-loop
-mul-entry c = omega (arith, few c)
+sub-run-input-2 : tie.Need-sub-run-input-2 Inv-loop μ-loop
+sub-run-input-2 c = omega arith
 
-element-copy-out-entry : tie.Need-element-copy-out-entry Inv-loop μ-loop
-element-copy-out-entry c = few c
+part-run-input-start-2 : tie.Need-part-run-input-start-2 Inv-loop μ-loop
+part-run-input-start-2 c = omega arith
 
-part-turn-requires : tie.Need-part-turn-requires Inv-loop μ-loop
-part-turn-requires c κs =
-    let l = c .before .before .before .before .before .before .before .before .before .before .before .before .before in
-    let f = l .loop .inv .0 .good .kept .fits in
-    (entry l .pre .0, ((f .most, length-statuses l, omega (arith, f .words), omega (arith, f .defaultWords), fits (c .before .before .before .before .before .before .before .before .before .before)), (c .before .before .before .before .before .before .before .before .before .turn-of .ensures, l .loop .inv .1)))
+part-run-input-end-2 : tie.Need-part-run-input-end-2 Inv-loop μ-loop
+part-run-input-end-2 c = room (c .before .before .before .before .before .before)
+
+run-input-requires : tie.Need-run-input-requires Inv-loop μ-loop
+run-input-requires c κs = let e = c .before .before .before .before .before .before .before in (entry (head (at-next e)) .pre .0, not-refused e)
+
+-- what they leave
+module _ (c : tie.After-run-input Inv-loop μ-loop) where
+  abbrev before-run : tie.Else1 Inv-loop μ-loop
+  before-run = c .before .before .before .before .before .before .before .before
+
+  abbrev given : Left Held
+  given = let x = c .run-input in feed.leftInPlace (x .result) (x .last .1 .1 .1 .0) (x .last .1 .1 .1 .1 .0) (x .last .1 .1 .1 .1 .1 .1 .0) (x .last .1 .1 .1 .1 .1 .1 .1 .1 .0)
+
+  abbrev all-ran : Ran State
+  all-ran = let n = at-next before-run in ran (head n .loop .inv .0) (next n) (trace n) (follows n) (some before-run)
+
+  abbrev records : List (List ℕ)
+  records = let n = at-next before-run in written (head n .loop .inv .0) (next n) (trace n) (follows n) (some before-run) .records
+
+  abbrev part : List ℕ
+  part = let n = at-next before-run in let o = head n .loop in take (o .w + next n .answers - o .w) (drop (o .w) (o .answers))
+
+  fed : _≡_ {A = Left Held} given
+      (record { number = 0; consumed = length (joinedUp records); written = length part; held = heldOf (carrying (all-ran .state) []); answers = all-ran .answer })
+  fed =
+      let n = at-next before-run in
+      let o = head n .loop in
+      let a = entry (head n) .args in
+      let v = written (o .inv .0) (next n) (trace n) (follows n) (some before-run) in
+      let e : length part ≡ o .w + next n .answers - o .w = length-take-le (o .w + next n .answers - o .w) (drop (o .w) (o .answers)) (omega (arith, room before-run, length-drop (o .w) (o .answers))) in
+      let l : length part ≡ 8 * length records = omega (arith, e, v .eight) in
+      c .run-input .ensures
+      ∙ ap (λ (bs : List ℕ). feeds (a .setup) (now (a .defaults)) (heldOf (carrying (present before-run) [])) bs part) (ap (λ (m : ℕ). take m (trace n)) (sub-zero (next n .len)) ∙ v .joined)
+      ∙ fed-wholes (a .setup) (now (a .defaults)) (present before-run) (not-refused before-run) records (v .wholes) part l
 
 loop-less : tie.Need-loop-less Inv-loop μ-loop
-loop-less c = less (c .before .before .before .before .before .before .before .before .before .before .before .before .before .before .before .before .before .before .before)
+loop-less c = let e = c .before .before .before .before .before .before .before .before .before .before .before .before .before .before .before .before .before .before .before in let l = head (at-next e) in omega (arith, some e, room e, l .loop .inv .0 .long)
 
 loop-again : tie.Need-loop-again Inv-loop μ-loop
 loop-again c =
-    let l = c .before .before .before .before .before .before .before .before .before .before .before .before .before .before .before .before .before .before .before .before .before .before in
-    let x = c .before .before .before .before .before .before .before .before .before .before .card-turn in
-    let e = sym (c .before .before .before .before .before .before .before .before .before .before .before .before .before .before .before .before .is-card .ensures) ∙ c .before .before .before .before .before .before .before .before .before .before .before .before .before .before .before .if2 .taken in (
-      keeps (c .before .before .before .before .before .before .before .before .before .before .before .before .before .before .before .before .before .before .before) _ _ _ _ _ (x .ensures .0 (card-whole _ _ _ _ _ (c .before .before .before .before .before .before .before .before .before .before .before .before .before .before .before .before .before .before .turn-of .result) (c .before .before .before .before .before .before .before .before .before .before .before .before .before .before .before .before .before .before .turn-of .ensures) e (entry l .args .t2) refl)),
-      x .ensures .1,
-      omega (arith, c .before .before .before .before .before .before .before .before .before .phases .given, l .loop .inv .2),
-    )
-
-loop-less-2 : tie.Need-loop-less-2 Inv-loop μ-loop
-loop-less-2 c = less (c .before .before .before .before .before .before .before .before .before .before .before .before .before .before .before .before .before .before .before .before .before)
-
-loop-again-2 : tie.Need-loop-again-2 Inv-loop μ-loop
-loop-again-2 c =
-    let l = c .before .before .before .before .before .before .before .before .before .before .before .before .before .before .before .before .before .before .before .before .before .before .before .before in
-    let setup = entry l .args .t2 in
-    let x = c .before .before .before .before .before .before .before .before .before .before .part-turn in
-    let e = sym (c .before .before .before .before .before .before .before .before .before .before .before .before .before .before .before .before .before .before .is-card .ensures) ∙ c .before .before .before .before .before .before .before .before .before .before .before .before .before .before .before .before .before .if2 .left in (
-      keeps (c .before .before .before .before .before .before .before .before .before .before .before .before .before .before .before .before .before .before .before .before .before) _ _ _ _ _ (x .ensures .0 setup refl refl refl (ap (entryOf setup) (sym (c .before .before .before .before .before .before .before .before .before .before .before .before .before .before .before .before .slot-of .ensures))) e),
-      x .ensures .1,
-      omega (arith, c .before .before .before .before .before .before .before .before .before .phases2 .given, l .loop .inv .2),
+    let f = c .before .before .before .before .before .before .before .before .before .before .before in
+    let n = at-next (before-run f) in
+    let o = head n .loop in (
+      stretched (o .inv .0) (next n) (trace n) (follows n) (some (before-run f)) _ _ _ _ _ (λ i. record { state = stateOf (fed f i .held); answer = fed f i .answers }),
+      omega (arith, c .before .before .before .before .before .before .before .before .before .before .phases .given, o .inv .1),
+      long (c .before .before .before .before .before .before .before .before .before .before .before .before .before .before .before .before .before .before .before .before .before),
     )
 
 pub run-entries-spec : {M : Type 1} → statement M
@@ -217,25 +235,23 @@ run-entries-spec =
     (tie.spec
     Inv-loop
     μ-loop
-    nanos-of-requires
     loop-holds
-    sub-next-step
-    next-step-requires
+    sub-next-stretch
+    slice-aggregate-next-stretch
+    next-stretch-requires
     ending-requires
     same-length
     same-length-2
     same-length-3
     same-length-4
     returns
-    turn-of-requires
-    add-more
-    is-card-requires
-    card-turn-requires
-    slot-of-requires
-    mul-entry
-    element-copy-out-entry
-    part-turn-requires
+    add-end
+    sub-run-input
+    part-run-input-start
+    part-run-input-end
+    sub-run-input-2
+    part-run-input-start-2
+    part-run-input-end-2
+    run-input-requires
     loop-less
-    loop-again
-    loop-less-2
-    loop-again-2)
+    loop-again)

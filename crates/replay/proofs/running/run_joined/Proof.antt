@@ -1,41 +1,34 @@
--- `replay::running::run_joined` meets its contract: Joining has the record and the rest.
+-- `replay::running::run_joined` meets its contract: feed's Carried has the record that runs first, and Joining what comes of it and the rest.
 -- Written by `tools/paths --write replay running/run_joined`.
-use Prim.Native.Nat.{ℕ, _+_, _-_, _≤_, _<_}
+use Prim.Native.Nat.{ℕ, _+_, _-_, _≤_}
 use native.Mathlib.Omega.{arith}
-use mathlib.Core.Path.{_≡_, refl, sym, ap, _∙_, subst}
+use mathlib.Core.Path.{_≡_, sym, ap, _∙_}
 use mathlib.Core.List.{List, [], _++_, append-nil}
-use lib.ListN.{length, take, drop, length-append, length-drop}
-use lib.Seq.{length-take-le, take-length, drop-length, length-paste}
+use lib.ListN.{length, take, drop, replicate, length-append, length-drop}
+use lib.Seq.{length-take-le, take-length, take-at, drop-at, drop-length}
 use denote.Ref.{now}
 use borrow.Author.Needs.{needs}
-use Rattle.trace.specs.Format.{Bytes, pad, longest}
+use Rattle.trace.specs.Format.{Bytes, longest}
 use Rattle.trace.specs.Bench.{Ran}
-use Rattle.trace.specs.Lent.{Left}
-use Rattle.trace.proofs.Records.{length-whole}
-use Rattle.trace.proofs.Loop.{Got, got-bytes, got-count, by-gather, next-itself}
-use Rattle.bits.proofs.Bytes.{bytes-of, bytes-append, bytes-take}
-use Rattle.times.specs.declared.Nanos.{Nanos}
+use Rattle.trace.specs.Lent.{Left, refusalOr31}
+use Rattle.bits.proofs.Bytes.{bytes-of}
 use Rattle.readiness.specs.inner.Phases.{statusesIn}
-use Rattle.readiness.specs.inner.Earliest.{ReadyFrom}
-use Rattle.records.specs.declared.Record.{Record}
 use Rattle.records.specs.State.{State}
-use Rattle.records.specs.Decode.{decode}
-use Rattle.records.specs.Answer.{answerBytes}
-use Rattle.records.specs.Run.{run}
-use Rattle.records.specs.Device.{device}
 use Rattle.execute.specs.inner.Lent.{stateIn}
-use Rattle.demand3.specs.Held.{carriedOf}
+use Rattle.demand3.specs.Held.{Held, held, opened, stateOf, carriedOf}
+use Rattle.demand3.specs.Feeding.{bench, feeds}
+use Rattle.set_up.specs.Lent.{heldIn}
 use Rattle.capture.specs.Lent.{progressIn}
-use Rattle.feed.specs.inner.Turns.{Turned}
-use Rattle.feed.proofs.Parts.{ran-bytes}
+use Rattle.feed.specs.Left as feed
+use Rattle.feed.proofs.Accepting.{Accepted, accepted}
 use Rattle.feed.proofs.NoRecord.{carried-bytes}
-use Rattle.feed.proofs.Carried.{begun-less}
-use Rattle.feed.proofs.Direct.{bound-zero}
+use Rattle.feed.proofs.Carried.{Joins, got, first, room-first, bytes-first, few-first, there-first, carried-less, eight-answers, between, between-accepted, opened-accepted, first-call}
+use Rattle.feed.proofs.Carried as carried
 use Rattle.replay_rules.specs.Replaying.{HeldWith}
 use Rattle.replay.specs.Left.{leftInPlace}
-use Rattle.replay.specs.inner.Calls.{Going, comesTo}
+use Rattle.replay.specs.inner.Calls.{comesTo}
 use Rattle.replay.proofs.NextStep.{take-few}
-use Rattle.replay.proofs.Joining.{going-on, joined}
+use Rattle.replay.proofs.Joining.{joined}
 use Rattle.replay.proofs.running.run_joined.Statement.{statement}
 use Rattle.replay.proofs.running.run_joined.Tie as tie
 
@@ -43,153 +36,167 @@ use Rattle.replay.proofs.running.run_joined.Tie as tie
 sixteen : (c : tie.Start) → length (c .args .port .carried) ≡ 16
 sixteen c = search needs
 
-carried : (c : tie.Start) → Bytes (carriedOf (c .args .port))
-carried c = carried-bytes (c .args .port) (λ i. search needs)
+carried-are : (c : tie.Start) → Bytes (carriedOf (c .args .port))
+carried-are c = carried-bytes (c .args .port) (λ i. search needs)
 
--- the state that the call begins with
-abbrev present : tie.Start → State
-present c = let a = c .args in stateIn (a .port .dev) (now (a .phases)) (now (a .live)) (now (a .cells))
-
--- the call's trace, and the record in front of it
-abbrev trace : tie.Start → List ℕ
-trace c = carriedOf (c .args .port) ++ now (c .args .input)
+relies : (c : tie.Start) → Accepted (c .args .setup) (now (c .args .defaults)) (heldIn (c .args .port) (now (c .args .phases)) (now (c .args .live)) (now (c .args .cells)))
+relies c = accepted (c .args .setup) (now (c .args .defaults)) _ (c .pre .1 .0) (search needs) (search needs)
 
 long : (c : tie.Start) → length (carriedOf (c .args .port)) ≡ c .args .port .«carried_len»
-long c = let a = c .args in length-take-le (a .port .«carried_len») (a .port .carried) (omega (arith, c .pre .1 .1 .1 .0 .1, sixteen c))
+long c = length-take-le (c .args .port .«carried_len») (c .args .port .carried) (omega (arith, relies c .short, sixteen c))
 
-got : (c : tie.Start) → Got (trace c) (c .args .size) × (8 ≤ length (now (c .args .answers)))
-got c =
-    let a = c .args in
-    let p = c .pre .1 .1 .1 .1 in
-    let g = by-gather (device (a .setup) (now (a .defaults))) (present c) (length (now (a .answers))) (trace c) .0 (subst (λ (n : ℕ). 0 < n) (p .1) (p .0)) in
-    (subst (Got (trace c)) (sym (p .1)) (g .0), g .1)
+-- what Carried asks
+joins : (c : tie.After-carried) → let a = c .before .before .before .before .before .before .before .before .args in
+    Joins (a .setup) (now (a .defaults)) (a .port) (statusesIn (now (a .phases))) (now (a .live)) (now (a .cells)) (now (a .input)) (now (a .answers)) (a .size)
+joins c =
+    let s = c .before .before .before .before .before .before .before .before in
+    record {
+      notRefused = s .pre .1 .0;
+      accepted = relies s;
+      carriedBytes = carried-are s;
+      inputBytes = bytes-of (now (s .args .input)) (λ i h. omega (arith, c .before .before .before .shared-slice-known2 .given i));
+      long = long s;
+      some = s .pre .1 .1 .1 .1 .0;
+      whole = s .pre .1 .1 .1 .1 .1;
+    }
 
-few : (c : tie.Start) → (c .args .size ≤ longest) × (c .args .size ≤ c .args .port .«carried_len» + length (now (c .args .input)))
-few c =
-    let n = got-count (trace c) (c .args .size) (got c .0) in
-    (n .few, omega (arith, n .there, length-append (carriedOf (c .args .port)) (now (c .args .input)), long c))
-
-carried-less : (c : tie.Start) → c .args .port .«carried_len» ≤ c .args .size
-carried-less c =
-    let g = got c .0 in
-    omega (arith, long c, begun-less (carriedOf (c .args .port)) (now (c .args .input)) (c .pre .1 .1 .1 .0 .2), g .count, length-whole (trace c) (g .whole) (g .is) .0)
+-- the call's trace is as long as both
+there : (c : tie.After-carried) → let a = c .before .before .before .before .before .before .before .before .args in a .size ≤ a .port .«carried_len» + length (now (a .input))
+there c =
+    let a = c .before .before .before .before .before .before .before .before .args in
+    omega (arith, there-first (joins c), length-append (carriedOf (a .port)) (now (a .input)), joins c .long)
 
 -- ---- the record
-abbrev entry : tie.After-take-turn → tie.Start
+abbrev at-carried : tie.After-run-input → tie.After-carried
+at-carried c = c .before .before .before .before .before .before .before .before .before
+
+abbrev entry : tie.After-run-input → tie.Start
 entry c = c .before .before .before .before .before .before .before .before .before .before .before .before .before .before .before .before .before
 
-abbrev slice : tie.After-take-turn → List ℕ
-slice c = c .take-turn .last .1 .1 .1 .1 .1 .1 .1 .1 .1 .0
+abbrev given : tie.After-run-input → Left Held
+given c = let x = c .run-input in feed.leftInPlace (x .result) (x .last .1 .1 .1 .0) (x .last .1 .1 .1 .1 .0) (x .last .1 .1 .1 .1 .1 .1 .0) (x .last .1 .1 .1 .1 .1 .1 .1 .1 .0)
 
-abbrev after : tie.After-take-turn → State
-after c = let x = c .take-turn in stateIn (x .result .dev) (x .last .1 .1 .1 .1 .0) (x .last .1 .1 .1 .1 .1 .0) (x .last .1 .1 .1 .1 .1 .1 .1 .0)
+abbrev ran : tie.After-run-input → Ran State
+ran c = carried.ran (joins (at-carried c))
 
-abbrev item : tie.After-take-turn → Record
-item c = c .before .before .decode .result
+one : (c : tie.After-run-input) → let j = joins (at-carried c) in
+    _≡_ {A = Left Held} (given c) (record { number = 0; consumed = length (first j); written = 8; held = between j; answers = ran c .answer })
+one c =
+    let b = at-carried c in
+    let a = entry c .args in
+    let j = joins b in
+    let room = take (8 - 0) (now (a .answers)) in
+    let t = take (a .size) (carriedOf (a .port) ++ now (a .input)) in
+    let n : length t ≡ a .size - 0 = omega (arith, length-take-le (a .size) (carriedOf (a .port) ++ now (a .input)) (there-first j)) in
+    c .run-input .ensures
+    ∙ ap (λ (l : List ℕ). feeds (a .setup) (now (a .defaults)) (heldIn (opened (a .port .dev)) (now (a .phases)) (now (a .live)) (now (a .cells))) l room)
+    (ap (take (a .size - 0)) (c .before .before .before .before .before .before .before .first-bytes .ensures) ∙ take-at t (replicate (longest - length t) 0) (a .size - 0) n ∙ bytes-first j)
+    ∙ first-call j room (length-take-le 8 (now (a .answers)) (room-first j))
 
-abbrev answer : tie.After-take-turn → List ℕ
-answer c = let s = entry c in answerBytes (run (s .args .setup) (now (s .args .defaults)) (present s) (item c) .reply)
+-- the state then
+abbrev after : tie.After-run-input → State
+after c = let x = c .run-input in stateIn (x .result .port .dev) (x .last .1 .1 .1 .0) (x .last .1 .1 .1 .1 .0) (x .last .1 .1 .1 .1 .1 .1 .0)
 
-takes : (c : tie.After-take-turn) → let s = entry c in Turned (s .args .setup) (now (s .args .defaults)) (present s) (item c) (now (s .args .answers)) 0 (after c) (slice c)
-takes c = let g = entry c .pre .1 .0 in c .take-turn .ensures .0 (g .sound) (g .fits)
+after-is : (c : tie.After-run-input) → _≡_ {A = Ran State} (record { state = after c; answer = given c .answers }) (ran c)
+after-is c = λ i. record { state = stateOf (one c i .held); answer = one c i .answers }
 
-ran : (c : tie.After-take-turn) → let s = entry c in
-    _≡_ {A = Ran State} (record { state = after c; answer = answer c }) (device (s .args .setup) (now (s .args .defaults)) .run (present s) (got s .0 .whole))
-ran c =
-    let s = entry c in
-    let g = got s .0 in
-    let bytes = pad longest (take (s .args .size) (trace s)) in
-    ran-bytes (s .args .setup) (now (s .args .defaults)) (present s) (after c) (answer c) (item c) bytes (g .whole)
-    (c .before .before .decode .ensures ∙ ap decode (c .before .before .before .before .before .before .before .first-bytes .ensures)) (ap (pad longest) (sym (got-bytes (trace s) (s .args .size) g))) (takes c .state) refl
+-- what is lent then is not refused
+not-refused : (c : tie.After-run-input) → let a = entry c .args in
+    let x = c .run-input in
+    refusalOr31 (bench (a .setup) (now (a .defaults))) (heldIn (opened (x .result .port .dev)) (x .last .1 .1 .1 .0) (x .last .1 .1 .1 .1 .0) (x .last .1 .1 .1 .1 .1 .1 .0)) ≡ 0
+not-refused c =
+    let a = entry c .args in
+    ap (λ (l : Left Held). refusalOr31 (bench (a .setup) (now (a .defaults))) (held (opened (l .held .port .dev)) (l .held .statuses) (l .held .live) (l .held .cells))) (one c)
+    ∙ between-accepted (joins (at-carried c))
 
--- its bytes
-bytes : (c : tie.After-take-turn) → Bytes (got (entry c) .0 .whole)
-bytes c =
-    let s = entry c in
-    let g = got s .0 in
-    rw (got-bytes (trace s) (s .args .size) g)
-    (bytes-take (s .args .size) (trace s)
-    (bytes-append (carriedOf (s .args .port)) (now (s .args .input)) (carried s) (bytes-of (now (s .args .input)) (λ i h. omega (arith, c .before .before .before .before .before .before .before .before .before .before .before .before .shared-slice-known2 .given i)))))
+-- its answer has eight bytes
+eight : (c : tie.After-run-input) → length (given c .answers) ≡ 8
+eight c = ap (λ (l : Left Held). length (l .answers)) (one c) ∙ eight-answers (joins (at-carried c))
 
-going : (c : tie.After-take-turn) → Going (entry c .args .setup) (now (entry c .args .defaults)) (after c)
-going c =
-    let s = entry c in
-    let g = got s .0 in
-    going-on (s .args .setup) (now (s .args .defaults)) (present s) (after c) (s .pre .1 .0) (g .whole) (next-itself (trace s) (g .whole) (g .is)) (bytes c)
-    (ap (λ (x : Ran State). x .state) (ran c))
+-- and the slice for answers is as long as it was
+abbrev slice : tie.After-run-input → List ℕ
+slice c = given c .answers ++ drop 8 (now (entry c .args .answers))
 
--- the slice for answers is as long as it was
-length-slice : (c : tie.After-take-turn) → length (slice c) ≡ length (now (entry c .args .answers))
+front-is : (c : tie.After-run-input) → take 8 (slice c) ≡ given c .answers
+front-is c = take-at (given c .answers) (drop 8 (now (entry c .args .answers))) 8 (eight c)
+
+back-is : (c : tie.After-run-input) → drop 8 (slice c) ≡ drop 8 (now (entry c .args .answers))
+back-is c = drop-at (given c .answers) (drop 8 (now (entry c .args .answers))) 8 (eight c)
+
+length-slice : (c : tie.After-run-input) → length (slice c) ≡ length (now (entry c .args .answers))
 length-slice c =
-    let s = entry c in
-    let a8 : length (answer c) ≡ 8 = ap (λ (x : Ran State). length (x .answer)) (ran c) ∙ device (s .args .setup) (now (s .args .defaults)) .eight (present s) (got s .0 .whole) in
-    ap length (takes c .answer) ∙ length-paste (now (s .args .answers)) 0 (answer c) 8 (omega (arith, got s .1)) (omega arith)
+    let a = entry c .args in
+    omega (arith, length-append (given c .answers) (drop 8 (now (a .answers))), eight c, length-drop 8 (now (a .answers)), room-first (joins (at-carried c)))
 
-room-left : (c : tie.After-take-turn) → 8 ≤ length (slice c)
-room-left c = omega (arith, length-slice c, got (entry c) .1)
+room-left : (c : tie.After-run-input) → 8 ≤ length (slice c)
+room-left c = omega (arith, length-slice c, room-first (joins (at-carried c)))
 
 -- ---- the needs
 sub-missing : tie.Need-sub-missing
-sub-missing c = carried-less (c .before .before .before .before .before .before .before .before)
+sub-missing c = carried-less (joins c)
 
 slice-aggregate-first-bytes : tie.Need-slice-aggregate-first-bytes
 slice-aggregate-first-bytes c = search needs
 
 first-bytes-requires : tie.Need-first-bytes-requires
-first-bytes-requires c κs = let s = c .before .before .before .before .before .before .before .before .before in (omega (arith, s .pre .1 .1 .1 .0 .1, sixteen s), few s .0, omega (arith, few s .1))
+first-bytes-requires c κs = let b = c .before in let s = c .before .before .before .before .before .before .before .before .before in (omega (arith, relies s .short, sixteen s), few-first (joins b), there b)
 
-nanos-of-requires : tie.Need-nanos-of-requires
-nanos-of-requires c κs = search needs
+sub-run-input : tie.Need-sub-run-input
+sub-run-input c = search needs
 
-decode-requires : tie.Need-decode-requires
-decode-requires c κs = search needs
+part-run-input-start : tie.Need-part-run-input-start
+part-run-input-start c = search needs
 
-take-turn-requires : tie.Need-take-turn-requires
-take-turn-requires c κs =
-    let s = c .before .before .before .before .before .before .before .before .before .before .before .before .before .before .before .before in
-    let g = s .pre .1 .0 in (
-      s .pre .0,
-      (
-        (g .fits .most, g .perSlot, g .fits .words, omega (arith, g .fits .defaultWords), omega (arith, got s .1)),
-        subst (λ (m : Nanos). ReadyFrom m (statusesIn (now (s .args .phases)))) (sym (c .before .before .before .before .before .nanos-of .ensures)) (bound-zero (statusesIn (now (s .args .phases)))),
-      ),
-    )
+part-run-input-end : tie.Need-part-run-input-end
+part-run-input-end c = omega (arith, few-first (joins (c .before .before .before .before .before .before)))
+
+sub-run-input-2 : tie.Need-sub-run-input-2
+sub-run-input-2 c = search needs
+
+part-run-input-start-2 : tie.Need-part-run-input-start-2
+part-run-input-start-2 c = search needs
+
+part-run-input-end-2 : tie.Need-part-run-input-end-2
+part-run-input-end-2 c = omega (arith, room-first (joins (c .before .before .before .before .before .before .before)))
+
+run-input-requires : tie.Need-run-input-requires
+run-input-requires c κs = (c .before .before .before .before .before .before .before .before .before .before .before .before .before .before .before .before .pre .0, opened-accepted (joins (c .before .before .before .before .before .before .before .before)))
 
 sub-run-entries : tie.Need-sub-run-entries
-sub-run-entries c = let s = c .before .before .before .before .before .before .before .before .before .before .before .before .before .before .before .before .before .before .before .before .before .before .before .before .before .before .before .before in omega (arith, few s .1)
+sub-run-entries c = let b = c .before .before .before .before .before .before .before .before .before .before .before .before .before .before .before .before .before .before .before .before .before in omega (arith, there b)
 
 part-run-entries-start : tie.Need-part-run-entries-start
-part-run-entries-start c = let s = c .before .before .before .before .before .before .before .before .before .before .before .before .before .before .before .before .before .before .before .before .before .before .before .before .before .before .before .before in omega (arith, few s .1)
+part-run-entries-start c = let b = c .before .before .before .before .before .before .before .before .before .before .before .before .before .before .before .before .before .before .before .before .before in omega (arith, there b)
 
 part-run-entries-end : tie.Need-part-run-entries-end
 part-run-entries-end c = search needs
 
 sub-run-entries-2 : tie.Need-sub-run-entries-2
-sub-run-entries-2 c = room-left (c .before .before .before .before .before .before .before .before .before .before .before .before)
+sub-run-entries-2 c = room-left (c .before .before .before .before .before .before .before .before .before .before .before .before .before)
 
 part-run-entries-start-2 : tie.Need-part-run-entries-start-2
-part-run-entries-start-2 c = room-left (c .before .before .before .before .before .before .before .before .before .before .before .before)
+part-run-entries-start-2 c = room-left (c .before .before .before .before .before .before .before .before .before .before .before .before .before)
 
 part-run-entries-end-2 : tie.Need-part-run-entries-end-2
 part-run-entries-end-2 c = search needs
 
 run-entries-requires : tie.Need-run-entries-requires
-run-entries-requires c κs = let t = c .before .before .before .before .before .before .before .before .before .before .before .before .before in (entry t .pre .0, (going t, entry t .pre .1 .1 .0))
+run-entries-requires c κs = let t = c .before .before .before .before .before .before .before .before .before .before .before .before .before .before in (entry t .pre .0, (not-refused t, entry t .pre .1 .1 .0))
 
 -- ---- the rest
-abbrev record-turn : tie.After-run-entries → tie.After-take-turn
-record-turn c = c .before .before .before .before .before .before .before .before .before .before .before .before .before .before
+abbrev first-run : tie.After-run-entries → tie.After-run-input
+first-run c = c .before .before .before .before .before .before .before .before .before .before .before .before .before .before .before
 
 abbrev rest : tie.After-run-entries → Left HeldWith
 rest c =
     let x = c .run-entries in
     leftInPlace (x .result) (x .last .1 .1 .1 .1 .0) (x .last .1 .1 .1 .1 .1 .0) (x .last .1 .1 .1 .1 .1 .1 .1 .0) (x .last .1 .1 .1 .1 .1 .1 .1 .1 .1 .0)
 
-rest-is : (c : tie.After-run-entries) → let t = record-turn c in
+rest-is : (c : tie.After-run-entries) → let t = first-run c in
     let a = entry t .args in
     rest c ≡ comesTo (a .setup) (now (a .defaults)) (after t) [] (progressIn (a .begun)) (drop (a .size - length (carriedOf (a .port))) (now (a .input))) (drop 8 (slice t))
 rest-is c =
-    let t = record-turn c in
+    let t = first-run c in
     let a = entry t .args in
     let m = a .size - a .port .«carried_len» in
     let i : take (length (now (a .input)) - m) (drop m (now (a .input))) ≡ drop m (now (a .input)) =
@@ -203,29 +210,29 @@ rest-is c =
 after-record-requires : tie.Need-after-record-requires
 after-record-requires c κs =
     let g = c .before .before .before .before .before .before .before .before in
-    let f = record-turn g in
+    let f = first-run g in
     let s = entry f in
     let a = s .args in
     let m = a .size - a .port .«carried_len» in
     let e = g .run-entries .ensures .1 in
     let memory = s .good .1 .1 .1 .1 .1 .1 .1 .1 .1 in (
-      omega (arith, e .0, take-few (length (now (a .input)) - m) (drop m (now (a .input))), few s .1, memory .0 .1),
+      omega (arith, e .0, take-few (length (now (a .input)) - m) (drop m (now (a .input))), there (at-carried f), memory .0 .1),
       omega (arith, e .1, take-few (length (slice f) - 8) (drop 8 (slice f)), length-slice f, room-left f, memory .1 .0 .1),
     )
 
 same-length : tie.Need-same-length
-same-length c = omega (arith, c .before .before .before .before .before .before .before .before .phases2 .given, c .before .before .before .before .before .before .before .before .before .before .before .before .before .before .before .before .before .before .before .before .before .before .phases .given)
+same-length c = omega (arith, c .before .before .before .before .before .before .before .before .phases2 .given, c .before .before .before .before .before .before .before .before .before .before .before .before .before .before .before .before .before .before .before .before .before .before .before .phases .given)
 
 same-length-2 : tie.Need-same-length-2
-same-length-2 c = omega (arith, c .before .before .before .before .before .before .live2 .given, c .before .before .before .before .before .before .before .before .before .before .before .before .before .before .before .before .before .before .before .before .live .given)
+same-length-2 c = omega (arith, c .before .before .before .before .before .before .live2 .given, c .before .before .before .before .before .before .before .before .before .before .before .before .before .before .before .before .before .before .before .before .before .live .given)
 
 same-length-3 : tie.Need-same-length-3
-same-length-3 c = omega (arith, c .before .before .before .before .cells2 .given, c .before .before .before .before .before .before .before .before .before .before .before .before .before .before .before .before .before .before .cells .given)
+same-length-3 c = omega (arith, c .before .before .before .before .cells2 .given, c .before .before .before .before .before .before .before .before .before .before .before .before .before .before .before .before .before .before .before .cells .given)
 
 same-length-4 : tie.Need-same-length-4
 same-length-4 c =
     let g = c .before .before .before .before .before .before .before .before .before in
-    let f = record-turn g in
+    let f = first-run g in
     let l = drop 8 (slice f) in
     let w = rest g .answers in
     let n : length (take 8 (slice f) ++ (w ++ drop (length (slice f) - 8) l)) ≡ length (now (entry f .args .answers)) =
@@ -235,9 +242,10 @@ same-length-4 c =
 returns : tie.Need-returns
 returns c =
     let g = c .before .before .before .before .before .before .before .before .before in
-    let f = record-turn g in
+    let f = first-run g in
     let s = entry f in
     let a = s .args in
+    let j = joins (at-carried f) in
     let l = drop 8 (slice f) in
     let w = rest g .answers in
     let none : drop (length (slice f) - 8) l ≡ [] = ap (λ (n : ℕ). drop n l) (sym (length-drop 8 (slice f))) ∙ drop-length l in
@@ -245,8 +253,8 @@ returns c =
     rw (c .after-record .ensures)
     (_∙_ {A = Left HeldWith}
     (λ i. record { number = rest g .number; consumed = a .size - sym (long s) i + rest g .consumed; written = 8 + rest g .written; held = rest g .held; answers = final i })
-    (joined (a .setup) (now (a .defaults)) (present s) (carriedOf (a .port)) (now (a .input)) (now (a .answers)) (progressIn (a .begun)) (s .pre .1 .1 .1 .0 .2) (omega (arith, long s, s .pre .1 .1 .1 .0 .0))
-    (a .size) (got s .0) (got s .1) (after f) (answer f) (ran f) (slice f) (takes f .answer) (rest g) (rest-is g)))
+    (joined (a .setup) (now (a .defaults)) (stateIn (a .port .dev) (now (a .phases)) (now (a .live)) (now (a .cells))) (carriedOf (a .port)) (now (a .input)) (now (a .answers)) (progressIn (a .begun)) (relies s .begun) (omega (arith, long s, s .pre .1 .1 .1 .0))
+    (a .size) (got j .0) (got j .1) (after f) (given f .answers) (after-is f) (slice f) (front-is f) (back-is f) (rest g) (rest-is g)))
 
 pub run-joined-spec : {M : Type 1} → statement M
 run-joined-spec =
@@ -255,9 +263,13 @@ run-joined-spec =
     sub-missing
     slice-aggregate-first-bytes
     first-bytes-requires
-    nanos-of-requires
-    decode-requires
-    take-turn-requires
+    sub-run-input
+    part-run-input-start
+    part-run-input-end
+    sub-run-input-2
+    part-run-input-start-2
+    part-run-input-end-2
+    run-input-requires
     sub-run-entries
     part-run-entries-start
     part-run-entries-end

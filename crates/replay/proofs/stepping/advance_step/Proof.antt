@@ -11,7 +11,6 @@ use borrow.Author.Needs.{needs}
 use borrow.Author.Tests.{eq-eqb, ne-eqb}
 use Rattle.times.specs.declared.Nanos.{Nanos}
 use Rattle.trace.proofs.Tests.{if-true, if-false}
-use Rattle.records.specs.declared.Record.the-variants.{Advance}
 use Rattle.capture.specs.Advances.{due}
 use Rattle.capture.specs.Lent.{progressIn}
 use Rattle.replay_state.specs.declared.Due.{Due}
@@ -60,7 +59,7 @@ returns-2 c =
     let a = s .args in
     λ rest.
     _∙_ {A = Step}
-    (λ i. record { runs = true; number = 0; «record» = Advance (by-is (c .before) i); replay = c .one-answered .ensures i; at = a .at })
+    (λ i. record { runs = true; number = 0; by = by-is (c .before) i; size = 0; replay = c .one-answered .ensures i; at = a .at })
     (an-advance (progressIn (a .r)) (a .space) (a .at) (drop (a .r .answered) (dues s)) _ _ (next-is s) rest (c .before .before .before .if1 .left))
 
 pub advance-step-spec : {M : Type 1} → statement M

@@ -1,10 +1,13 @@
-//! With the feature `library`, links the proved static library: `libstaticlib.a` in the folder that OTSNEBURA_LIBRARY names,
-//! or in `target/staticlib` of the repository.
+//! With the feature `library`, links the proved static libraries: `libstaticlib.a` and `libstaticlib_replay.a` in the folder that
+//! OTSNEBURA_LIBRARY names, or in `target/staticlib` of the repository.
 
 use std::env;
 use std::path::PathBuf;
 
-/// The folder in which the archive lies.
+/// The crates whose archives are linked.
+const LIBRARIES: [&str; 2] = ["staticlib", "staticlib_replay"];
+
+/// The folder in which the archives lie.
 fn folder() -> PathBuf {
     let named = env::var_os("OTSNEBURA_LIBRARY").filter(|name| !name.is_empty());
     let package = env::var_os("CARGO_MANIFEST_DIR").expect("cargo sets it");
@@ -18,11 +21,13 @@ fn main() {
         return;
     }
     let folder = folder();
-    let archive = folder.join("libstaticlib.a");
-    if !archive.exists() {
-        panic!("{} is not there; `rt staticlib staticlib` makes it", archive.display());
-    }
-    println!("cargo:rerun-if-changed={}", archive.display());
     println!("cargo:rustc-link-search=native={}", folder.display());
-    println!("cargo:rustc-link-lib=static=staticlib");
+    for library in LIBRARIES {
+        let archive = folder.join(format!("lib{library}.a"));
+        if !archive.exists() {
+            panic!("{} is not there; `rt staticlib {library}` makes it", archive.display());
+        }
+        println!("cargo:rerun-if-changed={}", archive.display());
+        println!("cargo:rustc-link-lib=static={library}");
+    }
 }

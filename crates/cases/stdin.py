@@ -7,7 +7,8 @@
 
 The cases: the first four of 00-base, whose output is the front of what 00-base wants; then those that are written here: marked
 cases 1 to 10 of 01; every status for every kind that can give it; refusals 1 to 5, each clause of 5 alone; 30 and 31; FRS in order
-of ready time, dropped, and with interrupts; messages written and read; time sheets. `stdout` is what the independent implementation writes.
+of ready time, dropped, and with interrupts; messages written and read; time sheets; replays, with each of 30 to 33 at each place, cuts, and
+each clause of the match alone. `stdout` is what the independent implementation writes.
 """
 import struct
 import sys
@@ -46,6 +47,7 @@ class Case:
             self.defaults[word] = value
         self.entries = list(entries) + [entry()] * (32 - len(entries))
         self.left = list(self.entries)
+        self.image = replay_image()
         self.operations = []
         cases.append(self)
 
@@ -76,6 +78,26 @@ class Case:
         words = struct.pack('<%dI' % self.live, *(self.defaults + [0] * self.live)[:self.live])
         ring = struct.pack('<%dI' % self.cells, *cells)
         self.operations.append((b'\3' + image(**port) + b''.join(statuses) + words + ring, 'lend'))
+        return self
+
+    def replay(self, entries, want, number=0, room=None, consumed=None, left=None, clock=None):
+        """`want`: for each advance and each record completed its status, or its 8 bytes; `left`: the replay image, by default that after
+        the last entry, or the one before where the call is refused; `clock`: at the end, where that is looked at."""
+        capture = b''.join(entries)
+        room = 8 * len(want) if room is None else room
+        refused = number in (1, 2, 3, 4, 5)
+        consumed = (0 if refused else len(capture)) if consumed is None else consumed
+        if left is None:
+            left = self.image if refused else replay_image(struct.unpack('<I', entries[-1][:4])[0])
+        self.image = left
+        head = struct.pack('<BHH', 6, room, len(capture))
+        self.operations.append((head + capture, 'replay', number, want, room, consumed, left, clock))
+        return self
+
+    def lend_replay(self, lent, image=None):
+        """`image`: how it is written again, where that is otherwise."""
+        self.image = lent if image is None else image
+        self.operations.append((b'\7' + lent, 'lend replay'))
         return self
 
     def writes(self, kind, number, reason, want, room=16):
@@ -119,6 +141,20 @@ def image(clock=0, link=0, owed=0, bits=(0, 0, 0), visibility=0, interrupt=0, si
     count = len(carried) if count is None else count
     flags = bytes([link, owed, *bits, visibility, interrupt, signalling])
     return struct.pack('<QQ8sHHB16sB', clock, 0, flags, start, depth, count, carried, broken)
+
+
+# ---- A replay
+
+def replay_image(earlier=None, stamp=b'', answered=0, ended=0, count=None):
+    """`earlier`: the stamp of the last record, None before the first; `stamp`: the bytes of the next one, or that stamp."""
+    stamp = struct.pack('<I', stamp) if isinstance(stamp, int) else stamp
+    count = len(stamp) if count is None else count
+    return struct.pack('<BIB4sBB', earlier is not None, earlier or 0, count, stamp, answered, ended)
+
+
+def stamped(stamp, record):
+    """An entry of a capture."""
+    return struct.pack('<I', stamp) + record
 
 
 # ---- Records
@@ -362,6 +398,163 @@ Case(slots=33, statuses=32, live=2112, default_words=2112).sheet('32 1 1 1 1 ns\
     '31 1 1 1 1 ns\n', {31: (1, 1, 1, 1)})
 
 
+# ---- Replays
+
+BACK = 1 << 31
+
+# Stamps that wrap; equal ones give no advance; one tick is 4 ns.
+Case().set_up().replay(
+    [stamped(0xFFFFFFFE, UP), stamped(0, read(0)), stamped(1, read(0))], [done(), done(), 17, done(), done(0x56781234)], clock=12)
+Case().set_up().replay([stamped(5, UP), stamped(5, BITS), stamped(5, BITS), stamped(6, BITS)], [0, 0, 0, 0, 0], clock=4)
+# One advance, and two: the longest comes first.
+Case().set_up().replay([stamped(0, BITS), stamped(0x3FFFFFFF, BITS)], [0, 0, 0], clock=4294967292)
+Case().set_up().replay(
+    [stamped(7, BITS), stamped(7 + 0x40000000, BITS)], [0, 0], 30, room=16, consumed=9, left=replay_image(7, 7 + 0x40000000, 1),
+    clock=4294967295).replay(
+        [BITS], [0], 30, room=8, consumed=0, left=replay_image(7, 7 + 0x40000000, 2), clock=4294967296).replay(
+            [BITS], [0], left=replay_image(7 + 0x40000000), clock=4294967296)
+Case().set_up().replay([stamped(BACK, BITS), stamped(0xFFFFFFFF, BITS), stamped(BACK - 2, BITS)], [0] * 7, clock=2 * 8589934588)
+# The slot becomes Ready within an advance, and its DRS and its FRS are counted in that advance's answer.
+Case().set_up().replay(
+    [stamped(0, control(6)), stamped(1, UP), stamped(9, write(0x78, 0x8000)), stamped(11, QUEUE)],
+    [0, 0, 0, done(interrupts=4), 0, done(interrupts=1, queued=1), done(0x130100)], clock=44)
+
+# The recorder went back (32): nothing of that entry runs, and the replay is ended, whatever comes.
+for before, after in ((1000, 999), (0, 0xFFFFFFFF), (0, BACK), (5, BACK + 5), (0xFFFFFFFF, BACK - 1)):
+    back = replay_image(before, after, ended=32)
+    Case().set_up().replay(
+        [stamped(before, UP), stamped(after, BITS), stamped(after, BITS)], [0], 32, room=24, consumed=9, left=back).replay(
+        [BITS], [], 32, room=8, consumed=0, left=back).replay([], [], 32, consumed=0, left=back).set_up().replay(
+            [stamped(before, UP)], [], 32, room=8, consumed=0, left=back)
+Case().set_up().replay([stamped(BACK, UP), stamped(0xFFFFFFFF, BITS)], [0, 0, 0, 0], clock=8589934588)
+# Without room too; and not before the kind byte is there.
+Case().set_up().replay([stamped(9, UP), stamped(8, b'')], [0], left=replay_image(9, 8)).replay(
+    [], [], left=replay_image(9, 8)).replay([BITS], [], 32, consumed=0, left=replay_image(9, 8, ended=32))
+
+# Kind 01 (33), also in the first entry, and without room for the advance; a step back comes first.
+Case().set_up().replay(
+    [stamped(5, UP), stamped(7, advance(3))], [0], 33, room=24, consumed=9, left=replay_image(5, 7, ended=33), clock=0).replay(
+    [BITS], [], 33, room=8, consumed=0, left=replay_image(5, 7, ended=33))
+Case().set_up().replay([stamped(5, advance(3))], [], 33, room=8, consumed=4, left=replay_image(None, 5, ended=33))
+Case().set_up().replay([stamped(5, UP), stamped(5, advance(3))], [0], 33, consumed=9, left=replay_image(5, 5, ended=33))
+Case().set_up().replay([stamped(5, UP), stamped(4, advance(3))], [0], 32, room=24, consumed=9, left=replay_image(5, 4, ended=32))
+# After an advance was answered for another kind byte.
+Case().set_up().replay([stamped(5, UP), stamped(7, BITS)], [0, 0], 30, room=16, consumed=9, left=replay_image(5, 7, 1)).replay(
+    [b'\1'], [], 33, room=8, consumed=0, left=replay_image(5, 7, 1, 33)).replay([BITS], [], 33, consumed=0, left=replay_image(5, 7, 1, 33))
+
+# Cuts: within a stamp, before the kind byte, within a record, at every byte.
+Case().set_up().replay([stamped(0x04030201, UP), b'\5\2'], [0], left=replay_image(0x04030201, b'\5\2')).replay(
+    [b'\3'], [], left=replay_image(0x04030201, b'\5\2\3')).replay([], [], left=replay_image(0x04030201, b'\5\2\3')).replay(
+        [b'\4', BITS], [0, 0], left=replay_image(0x04030205), clock=16)
+Case().set_up().replay([b''], [], left=replay_image()).replay([stamped(3, b'')], [], left=replay_image(None, 3)).replay(
+    [UP], [0], left=replay_image(3)).replay([stamped(6, b'')], [], room=8, left=replay_image(3, 6), clock=0).replay(
+        [read(0)[:1]], [0], left=replay_image(6), clock=12).replay([read(0)[1:3]], [], left=replay_image(6)).replay(
+            [read(0)[3:], stamped(6, BITS)], [done(0x56781234), done(4)])
+cut = Case().set_up()
+two = stamped(0x12345678, control(3)) + stamped(0x1234567A, read(0))
+answered = {5: [0], 10: [0], 13: [done(0xFFFFFFFF, status=18)]}
+for i in range(14):
+    left = replay_image(None, two[:i + 1]) if i < 4 else replay_image(0x12345678, two[6:i + 1]) if i < 10 else replay_image(0x1234567A)
+    cut.replay([two[i:i + 1]], answered.get(i, []), left=left)
+
+# 30: an advance without room, then a one-byte record after its advances, which are not repeated; then a record's last byte.
+Case().set_up().replay([stamped(1, UP), stamped(2, BITS)], [0], 30, room=15, consumed=9, left=replay_image(1, 2)).replay(
+    [BITS], [], 30, room=7, consumed=0, left=replay_image(1, 2)).replay(
+        [BITS], [0], 30, room=15, consumed=0, left=replay_image(1, 2, 1), clock=4).replay(
+            [BITS, stamped(3, read(0))], [0, 0], 30, room=16, consumed=8, left=replay_image(3), clock=8).replay(
+                [b'\x0F'], [17], left=replay_image(3))
+Case().set_up().replay([stamped(1, UP)], [], 30, room=7, consumed=4, left=replay_image(None, 1)).replay([UP], [0], left=replay_image(1))
+
+# 31 comes after the advances, and leaves the replay not ended; a set-up mends the port, and the stamp is still in hand.
+for kind in (b'\0', b'\x0E', b'\xFF'):
+    Case().set_up().replay([stamped(5, UP), stamped(10, kind), UP], [0, 0], 31, consumed=9, left=replay_image(5, 10, 1), clock=20).replay(
+        [UP], [], 31, room=8, consumed=0, left=replay_image(5, 10, 1)).replay([], [], 31, left=replay_image(5, 10, 1)).set_up().replay(
+            [UP], [0], left=replay_image(10), clock=0)
+Case().set_up().replay([stamped(5, UP), stamped(10, b'\0')], [0], 30, room=8, consumed=9, left=replay_image(5, 10)).replay(
+    [b'\0'], [0], 31, consumed=0, left=replay_image(5, 10, 1))
+Case().set_up().replay([stamped(5, b'\0')], [], 31, consumed=4, left=replay_image(None, 5))
+
+# 22 at an advance: it is answered, the clock stays, and the record runs.
+Case().lend(clock=CLOCK_END - 4).replay([stamped(0, BITS), stamped(1, BITS), stamped(2, BITS)], [0, 0, 0, 22, 0], clock=CLOCK_END)
+Case().lend(clock=CLOCK_END - 4).replay([stamped(0, BITS), stamped(0x40000000, BITS)], [0, 22, 0, 0], clock=CLOCK_END - 3)
+Case().lend(clock=CLOCK_END).replay([stamped(0, BITS), stamped(0x40000000, BITS)], [0, 22, 22, 0], clock=CLOCK_END)
+
+# Feed and replay by turns: feed may end a record of a replay; a record that feed begins within a stamp doesn't match.
+Case().set_up().replay([stamped(5, read(0)[:2])], [], left=replay_image(5)).feed([read(0)[2:], UP], [18, 0]).replay(
+    [stamped(6, BITS)], [0, 0], clock=4)
+Case().set_up().replay([b'\5\0'], [], left=replay_image(None, b'\5\0')).feed([read(0)[:1]], []).replay([b'\0\0', UP], [], 5, room=8).feed(
+    [read(0)[1:]], [18]).replay([b'\0\0', UP], [0], left=replay_image(5))
+Case().set_up().feed([read(0)[:3]], []).replay([b'\x0F'], [], 5, room=8)
+
+# Refusals 1 to 4; each comes before a replay that is ended, and so does 5; then that one's number, then 31.
+ENDED = replay_image(9, 8, ended=32)
+first = [stamped(0, UP)]
+Case(slots=0).replay(first, [], 1, room=8).lend_replay(ENDED).replay(first, [], 1, room=8)
+Case(cells=0).replay(first, [], 2, room=8).lend_replay(ENDED).replay(first, [], 2, room=8)
+Case(entries=[entry(flr=0xA1F)]).replay(first, [], 3, room=8).lend_replay(ENDED).replay(first, [], 3, room=8)
+Case(defaults=[(0x1E, 1 << 15)]).replay(first, [], 4, room=8).lend_replay(ENDED).replay(first, [], 4, room=8)
+Case().lend_replay(ENDED).lend(clock=CLOCK_END + 1).replay(first, [], 5, room=8).lend(broken=1).replay(
+    first, [], 32, room=8, consumed=0, left=ENDED).lend_replay(replay_image()).replay(
+        first, [], 31, room=8, consumed=0, left=replay_image())
+
+# Each clause of the match alone: 5.
+unmatched = Case().set_up()
+for lent in (
+        replay_image(5, 7, ended=1),
+        replay_image(5, 7, ended=31),
+        replay_image(5, 7, ended=34),
+        replay_image(5, 7, ended=255),
+        replay_image(5, b'\7\0\0\0', count=5),
+        replay_image(5, b'\7\0\0\0', count=255),
+        replay_image(5, answered=1),
+        replay_image(5, b'\7\0\0', answered=1),
+        replay_image(None, 7, answered=1),
+        replay_image(7, 7, answered=1),
+        replay_image(5, 7, answered=2),
+        replay_image(5, 5 + 0x40000000, answered=3),
+        replay_image(5, 5 + BACK, answered=1),
+        replay_image(5, 5 + BACK, answered=1, ended=32),
+        replay_image(5, ended=32),
+        replay_image(9, b'\5\0\0', ended=32),
+        replay_image(5, 7, ended=32),
+        replay_image(None, 7, ended=32),
+        replay_image(5, ended=33),
+        replay_image(5, b'\7\0\0', ended=33),
+        replay_image(5, 5 + BACK, ended=33)):
+    unmatched.lend_replay(lent).replay([BITS], [], 5, room=24)
+within = Case()
+for carried, lent in (
+        (read(0)[:2], replay_image()),
+        (read(0)[:2], replay_image(5, b'\7')),
+        (read(0)[:2], replay_image(5, 7)),
+        (read(0)[:2], replay_image(5, answered=1)),
+        (read(0)[:2], replay_image(5, ended=32)),
+        (read(0)[:2], replay_image(5, ended=33)),
+        (advance(9)[:2], replay_image(5))):
+    within.lend(carried=carried).lend_replay(lent).replay([carried[2:], BITS], [], 5, room=24)
+within.lend(carried=read(0)[:2]).lend_replay(replay_image(5)).replay(
+    [read(0)[2:], stamped(6, BITS)], [18, 0, 0], left=replay_image(6), clock=4)
+
+# States that match at their edges; what one doesn't say is ignored: an earlier stamp without begun, stamp bytes past the count.
+matched = Case().set_up()
+for lent, want, number in (
+        (replay_image(5, 7, 1), [0], 0),
+        (replay_image(5, 5 + 0x40000000, 1), [0, 0], 0),
+        (replay_image(5, 5 + 0x40000000, 2), [0], 0),
+        (replay_image(5, 5 + BACK), [], 32),
+        (replay_image(5, 5 + BACK, ended=32), [], 32),
+        (replay_image(5, 7, ended=33), [], 33),
+        (replay_image(5, 5 + 0x40000000, 2, 33), [], 33),
+        (replay_image(None, 7, ended=33), [], 33)):
+    left = lent[:11] + bytes([number]) if number else replay_image(struct.unpack('<I', lent[6:10])[0])
+    matched.lend_replay(lent).replay([BITS], want, number, room=24, consumed=0 if number else 1, left=left)
+matched.lend_replay(struct.pack('<BIB4sBB', 0, 1000, 4, b'\5\0\0\0', 0, 0), replay_image(None, 5)).replay(
+    [], [], left=replay_image(None, 5)).replay([BITS], [0], left=replay_image(5))
+matched.lend_replay(struct.pack('<BIB4sBB', 1, 1000, 1, b'\xEA\3\1\1', 0, 0), replay_image(1000, b'\xEA')).replay(
+    [], [], left=replay_image(1000, b'\xEA')).replay([b'\3\0\0', BITS], [0, 0], left=replay_image(1002))
+matched.lend_replay(struct.pack('<BIB4sBB', 0, 1000, 2, b'\5\0\1\1', 9, 9), replay_image(None, b'\5\0', 9, 9)).replay([BITS], [], 5, room=8)
+
+
 # ---- An output is held to what is expected
 
 STATUSES = {1: (0, 22), 2: (0, 16, 17, 18, 20, 21, 24), 3: (0, 17, 18, 20, 21, 24), 4: (0, 19, 23), 5: (0, 23), 6: (0, 23),
@@ -381,11 +574,14 @@ class Check:
         self.wrong += 1
         print('%s: %s' % (where, what))
 
-    def answer(self, where, kind, got, want):
-        self.seen.add((kind, got[0]))
+    def hold(self, where, got, want):
         want = bytes([want]) if isinstance(want, int) else want
         if got[:len(want)] != want:
             self.say(where, 'answer %s, not %s' % (got.hex(), want.hex()))
+
+    def answer(self, where, kind, got, want):
+        self.seen.add((kind, got[0]))
+        self.hold(where, got, want)
 
     def feed(self, where, operation, carried):
         number, consumed, written = struct.unpack('<BII', self.take(9))
@@ -401,12 +597,33 @@ class Check:
         if answers[written:] != b'\xEE' * (room - written):
             self.say(where, 'a byte beyond the answers changed')
 
+    def replay(self, where, operation):
+        number, consumed, written = struct.unpack('<BII', self.take(9))
+        _, _, want_number, want, room, want_consumed, _, _ = operation
+        answers = self.take(room)
+        if (number, consumed, written) != (want_number, want_consumed, 8 * len(want)):
+            self.say(where, 'number %d, consumed %d, written %d' % (number, consumed, written))
+        for i, w in enumerate(want):
+            self.hold('%s answer %d' % (where, i), answers[8 * i:8 * i + 8], w)
+        if answers[written:] != b'\xEE' * (room - written):
+            self.say(where, 'a byte beyond the answers changed')
+
+    def after_replay(self, where, state, operation):
+        left, clock = operation[6:]
+        got = self.take(len(left))
+        if got != left:
+            self.say(where, 'replay image %s, not %s' % (got.hex(), left.hex()))
+        if clock is not None and struct.unpack('<Q', state[:8])[0] != clock:
+            self.say(where, 'another clock than %d' % clock)
+
     def case(self, index, case):
         carried = b''
         for j, operation in enumerate(case.operations):
             where = 'case %d operation %d' % (index, j)
             if operation[1] == 'lend':
                 carried = operation[0][30:30 + operation[0][29]]
+                continue
+            if operation[1] == 'lend replay':
                 continue
             if operation[1] == 'message':
                 got = self.take(len(operation[2]))
@@ -415,10 +632,14 @@ class Check:
                 continue
             if operation[1] == 'feed':
                 self.feed(where, operation, carried)
+            elif operation[1] == 'replay':
+                self.replay(where, operation)
             elif self.take(1) != bytes([operation[2]]):
                 self.say(where, 'another number')
             state = self.take(case.state_size())
             carried = state[29:29 + state[28]]
+            if operation[1] == 'replay':
+                self.after_replay(where, state, operation)
 
     def all(self):
         for index, case in enumerate(cases):

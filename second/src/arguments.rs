@@ -7,7 +7,8 @@ pub struct Arguments {
 }
 
 /// Options without a value.
-const SWITCHES: [&str; 5] = ["--table", "--masks", "--compare", "--lengths", "--sheets"];
+const SWITCHES: [&str; 6] =
+    ["--table", "--masks", "--compare", "--lengths", "--sheets", "--captures"];
 
 impl Arguments {
     pub fn read(given: impl Iterator<Item = String>) -> Result<Arguments, String> {

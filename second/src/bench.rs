@@ -4,6 +4,7 @@ use std::borrow::Cow;
 
 use crate::faults::Fault;
 use crate::registers::{Table, TABLE};
+use crate::replay::Replay;
 use crate::setup::Setup;
 use crate::sheets::{Sheet, Taken};
 use crate::state::{Port, State, Status};
@@ -14,6 +15,8 @@ pub struct Bench<'a> {
     /// The one lent, until a sheet changes its codes.
     pub setup: Cow<'a, Setup>,
     pub state: State,
+    /// What a replay keeps; feed and set-up have nothing to do with it.
+    pub replay: Replay,
     pub table: &'a Table,
     pub fault: Fault,
     /// Bits of slots that earlier sheets named; a planted fault alone fills it.
@@ -56,7 +59,14 @@ impl Answer {
 impl<'a> Bench<'a> {
     pub fn new(setup: &'a Setup, fault: Fault) -> Bench<'a> {
         let state = State::zero(setup);
-        Bench { setup: Cow::Borrowed(setup), state, table: &TABLE, fault, named_earlier: 0 }
+        Bench {
+            setup: Cow::Borrowed(setup),
+            state,
+            replay: Replay::FRESH,
+            table: &TABLE,
+            fault,
+            named_earlier: 0,
+        }
     }
 
     pub fn has(&self, fault: Fault) -> bool {
@@ -73,6 +83,9 @@ impl<'a> Bench<'a> {
         self.state.statuses.fill(Status::Down);
         for (live, default) in self.state.live.iter_mut().zip(&self.setup.defaults) {
             *live = *default;
+        }
+        if self.has(Fault::ReplayFreshAtSetUp) {
+            self.replay = Replay::FRESH;
         }
         if !self.has(Fault::SetUpKeepsCells) {
             self.state.cells.fill(0);

@@ -4,6 +4,7 @@ use crate::bench::{Answer, Bench};
 use crate::feed::Fed;
 use crate::generate::Of;
 use crate::messages::{Kind, DRS, UNREADABLE, UNWRITABLE};
+use crate::replay::reached::Reached as ReplaysReached;
 use crate::run::{Gave, Reading, Wrote};
 use crate::setup::PARTS;
 use crate::sheets::reached::Reached;
@@ -11,7 +12,7 @@ use crate::sound::{broken_clauses, CLAUSES};
 use crate::stream::MOST_MESSAGE;
 
 /// Each kind of record with each status that it can give.
-const STATUSES: [(u8, &str, &[u8]); 13] = [
+pub const STATUSES: [(u8, &str, &[u8]); 13] = [
     (0x01, "advance", &[0, 22]),
     (0x02, "configuration read", &[0, 16, 17, 18, 20, 21, 24]),
     (0x03, "configuration write", &[0, 17, 18, 20, 21, 24]),
@@ -50,6 +51,7 @@ pub struct Coverage {
     written: Messages<{ UNWRITABLE.len() }>,
     read: Messages<{ UNREADABLE.len() }>,
     sheets: Reached,
+    captures: ReplaysReached,
 }
 
 /// Counters of messages written, or of messages read.
@@ -120,17 +122,20 @@ impl Coverage {
             written: Messages::new(),
             read: Messages::new(),
             sheets: Reached::new(),
+            captures: ReplaysReached::new(),
         }
     }
 
     /// A case begins.
     pub fn begin_case(&mut self) {
         self.sheets.begin_case();
+        self.captures.begin_case();
     }
 
     /// Counts what an operation gave; the bench is as the operation left it.
     pub fn note(&mut self, gave: &Gave, bench: &Bench) {
         self.sheets.note(gave);
+        self.captures.note(gave, bench);
         match gave {
             Gave::SetUp(number) => {
                 self.set_ups[usize::from(*number)] += 1;
@@ -140,7 +145,10 @@ impl Coverage {
             Gave::Lent { noise } => self.noisy_lends += u64::from(*noise),
             Gave::Wrote(wrote) => self.note_wrote(wrote),
             Gave::Reading(reading) => self.note_reading(reading),
-            Gave::Sheet(_) => {}
+            Gave::Replay(call) => {
+                call.replayed.fed.ran.iter().for_each(|(_, answer)| self.note_arrivals(answer));
+            }
+            Gave::Sheet(_) | Gave::LentReplay { .. } => {}
         }
     }
 
@@ -229,6 +237,7 @@ impl Coverage {
         self.written.rows("write a message", &UNWRITABLE, &mut rows);
         self.read.rows("read a message", &UNREADABLE, &mut rows);
         self.sheets.rows(&mut rows);
+        self.captures.rows(&mut rows);
         rows
     }
 
@@ -236,6 +245,7 @@ impl Coverage {
         match of {
             Of::Everything => self.rows(),
             Of::Sheets => self.sheets.rows_alone(),
+            Of::Captures => self.captures.rows_alone(),
         }
     }
 
@@ -255,7 +265,7 @@ impl Coverage {
     }
 }
 
-/// Prints the table; true if every counter was reached, or every one that cases of sheets alone can reach.
+/// Prints the table; true if every counter was reached, or every one that cases of sheets or captures alone can reach.
 pub fn report(coverage: &Coverage, of: Of) -> bool {
     print!("{}", coverage.table(of));
     let missing = coverage.missing(of);

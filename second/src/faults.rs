@@ -1,5 +1,6 @@
 //! The list of planted faults: one wrong reading for each sentence of the rules.
 
+use crate::replay;
 use crate::sound::Clause;
 
 /// Where a fault departs from the rules, and how.
@@ -349,9 +350,131 @@ faults! {
     SheetForgotten: "Case stream", "04: The entries that it leaves are those of the set-up from here on" => "the set-up keeps its own";
     SheetNeedsSetUp: "Case stream", "04: The entries that it leaves" => "a sheet changes nothing where the set-up is refused";
     SheetSetsUp: "Q-1", "Each time is turned into the code" => "a sheet sets up anew";
+    ReplayHalfIsForward: "Q-5", "a difference of 2^31 ticks or more means the recorder went back" => "2^31 itself is forward";
+    ReplayBelowHalfIsBack: "Q-5", "a difference of 2^31 ticks or more means the recorder went back" => "2^31 - 1 too";
+    ReplayWrapIsBack: "Q-5", "a 32-bit tick count that wraps to 0" => "a wrap means that the recorder went back";
+    ReplayNeverBack: "Q-5", "the recorder went back: 32" => "32 is never given";
+    ReplayBackIfLowerOnly: "Q-5", "by the wrapped difference" => "a higher stamp is never back";
+    ReplayTickOf3: "Q-5", "4 ns a tick" => "3 ns";
+    ReplayTickOf1: "Q-5", "4 ns a tick" => "1 ns";
+    ReplayStampHighByteFirst: "Q-5", "stamp (4 bytes, low byte first)" => "high byte first";
+    ReplayFirstStampAdvances: "Q-5", "The first stamp gives no advance" => "an advance from 0";
+    ReplayNoTimeAdvances: "Q-5", "a difference of 0 gives no advance" => "an advance of 0";
+    ReplayTimeOf32Bits: "Q-5", "Above 4,294,967,295 ns, advances of that size come first" => "the time is kept in 32 bits";
+    ReplayRestFirst: "Q-5", "advances of that size come first, then the rest" => "the rest comes first";
+    ReplayRestDropped: "Q-5", "then the rest" => "the rest is left out";
+    ReplayHalves: "Q-5", "advances of that size come first, then the rest" => "two halves";
+    ReplayFullOfWholeTicks: "Q-5", "Above 4,294,967,295 ns, advances of that size" => "4,294,967,292 ns, a whole number of ticks";
+    ReplayFromFirstStamp: "Q-5", "Turn two neighbouring stamps into an advance" => "each stamp and the first one";
+    ReplayAdvancesAtStamp: "Q-5", "checked at the kind byte, before that stamp's advance" => "advances run once the stamp is whole";
+    ReplayBackAtStamp: "Q-5", "Both are checked at the kind byte" => "32 is given once the stamp is whole";
+    ReplayBackGivenAtCut: "Q-5", "Both are checked at the kind byte" => "32 is given at a call's end, with no kind byte there";
+    ReplayBegunAtStamp: "Q-5", "The earlier stamp is that of the last record whose kind byte was consumed" => "the first one counts once it is whole";
+    ReplayAdvancesAfterKind: "Q-5", "The kind byte is consumed only once that stamp's advances are answered" => "it is consumed first";
+    ReplayAdvanceBeforeBack: "Q-5", "32 .. 33, checked next" => "33 before 32";
+    ReplayAdvanceAfterAdvances: "Q-5", "Both are checked before that stamp's advance" => "33 after it";
+    ReplayAdvanceTaken: "Q-5", "A kind 01 after a stamp: 33" => "it is run";
+    ReplayAdvanceTakenFirst: "Q-5", "A kind 01 after a stamp: 33" => "after the first stamp it is run";
+    ReplayAdvanceTakenAtOnce: "Q-5", "A kind 01 after a stamp: 33" => "with a difference of 0 it is run";
+    ReplayUnknownBeforeBack: "Q-5", "31 comes after them" => "31 before 32";
+    ReplayUnknownBeforeAdvances: "Q-5", "31 comes after them" => "31 before the advances";
+    ReplayRoomBeforeBack: "Q-5", "An advance without room gives 30" => "30 before 32";
+    ReplayRoomBefore33: "Q-5", "An advance without room gives 30" => "30 before 33";
+    ReplayRoomBeforeUnknown: "Q-5", "An advance without room gives 30" => "30 before 31, with no advance due";
+    ReplayRoomForAllAdvances: "Q-5", "An advance without room gives 30" => "unless there is room for all of a stamp";
+    ReplayRoomForRecordToo: "Q-5", "An advance without room gives 30" => "unless there is room for a record of one byte too";
+    ReplayAdvanceRoomOf9: "Q-5", "An advance without room gives 30" => "9 bytes are asked for";
+    ReplayAdvancesUnanswered: "Q-5", "advances are answered" => "they run without an answer";
+    ReplayAdvancesRepeated: "Q-5", "A one-byte record without room after its advances: 30, and they are not repeated" => "they are repeated";
+    ReplayCutForgetsAdvances: "Q-5", "advances of this stamp that are answered" => "forgotten at a call's end";
+    ReplayAnsweredKept: "Q-5", "at that byte the count of answered advances goes back to 0" => "it stays";
+    ReplayOldBytesShown: "Case stream", "stamp bytes past the count written as 0" => "those of the stamp before";
+    Replay22NotAnswered: "Q-5", "An advance answered 22 counts as answered" => "it doesn't at a call's end";
+    Replay22SkipsRest: "Q-5", "An advance answered 22 counts as answered" => "the stamp's next one too";
+    ReplayEarlierAt30: "Q-5", "The earlier stamp is that of the last record whose kind byte was consumed" => "also with 30";
+    ReplayEarlierAt31: "Q-5", "The earlier stamp is that of the last record whose kind byte was consumed" => "also with 31";
+    ReplayEndsAt31: "Q-5", "31 leaves the replay not ended" => "ended 31";
+    ReplayKindConsumedAt32: "Q-5", "the kind byte is not consumed" => "it is with 32";
+    ReplayKindConsumedAt33: "Q-5", "the kind byte is not consumed" => "it is with 33";
+    ReplayStampGivenBack: "Q-5", "the stamp's bytes are consumed" => "not with 32 and 33";
+    ReplayEndDropsStamp: "Q-5", "ended 32 has 4 stamp bytes" => "the end drops them";
+    ReplayEndBreaks: "Q-5", "either ends the replay" => "it breaks the port too";
+    ReplayEndForgetsAdvances: "Q-5", "A replay that ended by 33 may have advances answered" => "the end forgets them";
+    ReplayEndUndoes: "Q-5", "what came before stands" => "no answer is counted";
+    ReplayEndForgotten: "Q-5", "either ends the replay" => "the end is not kept";
+    ReplayEndedGoesOn: "Q-5", "an ended replay, its number again" => "it goes on";
+    ReplayEndedNeedsInput: "Q-5", "an ended replay, its number again" => "not for an empty input";
+    ReplayEndedGives32: "Q-5", "an ended replay, its number again" => "always 32";
+    ReplayEndedGives31: "Q-5", "an ended replay, its number again" => "31";
+    ReplayEndedFirst: "Q-5", "an ended replay, right after 5" => "before 1";
+    ReplayEndedBeforeUnsound: "Q-5", "an ended replay, right after 5" => "before 5";
+    ReplayEndedBeforeMatch: "Q-5", "an ended replay, right after 5" => "before the 5 of a replay state that doesn't match";
+    ReplayBrokenBeforeEnded: "Q-5", "an ended replay's number, 31" => "31 before it";
+    ReplayBrokenBeforeMatch: "Q-5", "5 (port, then match), an ended replay's number, 31" => "31 before the 5 of a replay state that doesn't match";
+    ReplayMatchFirst: "Q-5", "1 to 4, 5 (port, then match)" => "a replay state that doesn't match gives 5 before 1";
+    ReplayEndedOtherTaken: "Q-5", "5: ended is 0, 32 or 33" => "not checked";
+    ReplayManyBytesTaken: "Q-5", "5: at most 4 stamp bytes" => "not checked";
+    ReplayCarriedNotBegunTaken: "Q-5", "5: if bytes are carried: begun" => "not checked";
+    ReplayCarriedStampTaken: "Q-5", "5: if bytes are carried: no stamp bytes" => "not checked";
+    ReplayCarriedAdvanceTaken: "Q-5", "5: if bytes are carried: the first carried byte is not 01" => "not checked";
+    ReplayAnsweredEarlyTaken: "Q-5", "5: advances are answered only with 4 stamp bytes" => "not checked";
+    ReplayAnsweredMoreTaken: "Q-5", "5: no more than the stamp has" => "not checked";
+    ReplayAnsweredBackTaken: "Q-5", "5: a difference of 2^31 ticks or more has none" => "not checked";
+    ReplayEnded32EarlyTaken: "Q-5", "5: ended 32 has 4 stamp bytes" => "not checked";
+    ReplayEnded32ForwardTaken: "Q-5", "5: ended 32 has such a difference" => "not checked";
+    ReplayEnded33EarlyTaken: "Q-5", "5: ended 33 has 4 stamp bytes" => "not checked";
+    ReplayEnded33BackTaken: "Q-5", "5: ended 33 has no such difference" => "not checked";
+    ReplayMatchNotAsked: "Q-5", "A replay state that doesn't match gives 5" => "never";
+    ReplayAllAnsweredRefused: "Q-5", "5: no more than the stamp has" => "fewer than it has";
+    ReplayAnsweredRefusedAt33: "Q-5", "A replay that ended by 33 may have advances answered" => "5";
+    ReplayFirstStampRefusedAt33: "Q-5", "The earlier stamp counts only if begun" => "ended 33 at the first stamp is 5";
+    ReplayBackStampRefused: "Q-5", "nothing else is looked at" => "a whole stamp that went back is 5 where the replay has not ended";
+    ReplayBrokenDoesNotMatch: "Q-5", "nothing else is looked at (not broken)" => "a broken port doesn't match";
+    ReplayFedRecordRefused: "Q-5", "nothing else is looked at" => "more than one carried byte is 5";
+    ReplayRefusalResets: "Q-5", "With 1 to 5 nothing changes" => "the replay state is fresh after it";
+    ReplayFreshAtSetUp: "Q-5", "A set-up makes live registers equal the defaults .." => "the replay state is fresh too";
+    ReplayFreshAtLend: "Case stream", "03: a state image replaces port, statuses, live words and cells" => "the replay state is fresh too";
+    ReplayFeedForgets: "Q-5", "what a replay keeps" => "a feed drops the stamp's bytes";
+    ReplayCutDropsStamp: "Q-5", "cuts included" => "a call's end drops the stamp's bytes";
+    ReplayCutForgetsEarlier: "Q-5", "cuts included" => "a call's end forgets the earlier stamp";
+    ReplayRoomCleared: "Numbers", "Answer bytes beyond those written stay" => "a replay makes them 0";
+    ReplayLendForgotten: "Case stream", "07: a replay image replaces the replay state" => "nothing is replaced";
+    ReplayUnbegunStampTaken: "Case stream", "an earlier stamp without begun is ignored in reading" => "one that is not 0 counts";
+    ReplayUnbegunStampRefused: "Case stream", "an earlier stamp without begun is ignored in reading" => "a bad case";
+    ReplayBytesPastCountTaken: "Case stream", "stamp bytes past the count are ignored in reading" => "shown as they were";
+    ReplayBytesPastCountRefused: "Case stream", "stamp bytes past the count are ignored in reading" => "a bad case";
+    ReplayTakenRefused: "Case stream", "stamp bytes taken: any byte may be lent" => "one above 4 is a bad case";
+    ReplayAnsweredRefused: "Case stream", "advances answered: any byte may be lent" => "one above 2 is a bad case";
+    ReplayEndedRefused: "Case stream", "ended: any byte may be lent" => "one that is not 0, 32 or 33 is a bad case";
+    ReplayBytesOf4Shown: "Case stream", "stamp bytes past the count written as 0" => "none are shown with a count above 4";
+    ReplayRoomOf4096Refused: "Case stream", "06: body as 02" => "room of 4,096 is a bad case";
+    ReplayInputOf4096Refused: "Case stream", "06: body as 02" => "4,096 bytes of input are a bad case";
+    ReplayImageLeftOut: "Case stream", "06: after the state image the replay image" => "left out where the replay was refused";
 }
 
 impl Fault {
+    /// Whether a replay with this fault takes a state that breaks this clause.
+    pub fn lets_through(self, clause: replay::Clause) -> bool {
+        use replay::Clause;
+        let let_through = match self {
+            Fault::ReplayMatchNotAsked => return true,
+            Fault::ReplayEndedOtherTaken => Clause::EndedOther,
+            Fault::ReplayManyBytesTaken => Clause::ManyBytes,
+            Fault::ReplayCarriedNotBegunTaken => Clause::CarriedNotBegun,
+            Fault::ReplayCarriedStampTaken => Clause::CarriedWithStampBytes,
+            Fault::ReplayCarriedAdvanceTaken => Clause::CarriedAdvance,
+            Fault::ReplayAnsweredEarlyTaken => Clause::AnsweredEarly,
+            Fault::ReplayAnsweredMoreTaken => Clause::AnsweredMore,
+            Fault::ReplayAnsweredBackTaken => Clause::AnsweredBack,
+            Fault::ReplayEnded32EarlyTaken => Clause::Ended32Early,
+            Fault::ReplayEnded32ForwardTaken => Clause::Ended32Forward,
+            Fault::ReplayEnded33EarlyTaken => Clause::Ended33Early,
+            Fault::ReplayEnded33BackTaken => Clause::Ended33Back,
+            _ => return false,
+        };
+        let_through == clause
+    }
+
     /// Whether a feed with this fault leaves this clause of refusal 5 out.
     pub fn skips(self, clause: Clause) -> bool {
         let skipped = match self {

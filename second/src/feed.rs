@@ -16,7 +16,7 @@ pub struct Fed {
 }
 
 impl Fed {
-    fn start() -> Fed {
+    pub fn start() -> Fed {
         Fed { number: 0, consumed: 0, written: 0, ran: Vec::new() }
     }
 
@@ -39,6 +39,9 @@ impl Bench<'_> {
         if let Some(number) = self.feed_refusal() {
             return Fed::refused(number);
         }
+        if self.has(Fault::ReplayFeedForgets) && self.replay.ended == 0 {
+            (self.replay.taken, self.replay.answered) = (0, 0);
+        }
         let mut fed = Fed::start();
         if self.state.port.broken && !self.has(Fault::BrokenIsForgotten) {
             fed.number = 31;
@@ -58,7 +61,7 @@ impl Bench<'_> {
     }
 
     /// Takes one byte, or gives 30 or 31 and leaves it.
-    fn take_byte(&mut self, byte: u8, room: &mut [u8], fed: &mut Fed) -> Option<u8> {
+    pub fn take_byte(&mut self, byte: u8, room: &mut [u8], fed: &mut Fed) -> Option<u8> {
         let count = usize::from(self.state.port.carried_count);
         let kind = if count == 0 { byte } else { self.state.port.carried[0] };
         let Some(length) = record_length(kind) else {

@@ -94,19 +94,19 @@ impl Landed {
 pub const NO_PARENT: u8 = 0xFF;
 
 /// What has landed.
-pub const LANDED: Landed = Landed { sheets: true, ..Landed::NOTHING };
+pub const LANDED: Landed = Landed { sheets: true, replay: true, ..Landed::NOTHING };
 
 #[cfg(test)]
 mod tests {
     use super::*;
 
     #[test]
-    fn the_base_has_five_operations_and_sheets_one_more() {
+    fn the_base_has_five_operations_and_what_has_landed_three_more() {
         let operations = |landed: Landed| -> Vec<u8> {
             (0..=255).filter(|kind| landed.has_operation(*kind)).collect()
         };
         assert_eq!(operations(Landed::NOTHING), [0x01, 0x02, 0x03, 0x0D, 0x0E]);
-        assert_eq!(operations(LANDED), [0x01, 0x02, 0x03, 0x04, 0x0D, 0x0E]);
+        assert_eq!(operations(LANDED), [0x01, 0x02, 0x03, 0x04, 0x06, 0x07, 0x0D, 0x0E]);
     }
 
     #[test]
@@ -126,6 +126,9 @@ mod tests {
     fn a_request_opens_what_is_its_own() {
         let with_sheets = Landed { sheets: true, ..Landed::NOTHING };
         assert!(with_sheets.has_operation(4) && !with_sheets.has_operation(5));
+        let with_replay = Landed { replay: true, ..Landed::NOTHING };
+        assert!(with_replay.has_operation(6) && with_replay.has_operation(7));
+        assert!(!with_replay.has_operation(8));
         let with_editions = Landed { editions: true, ..Landed::NOTHING };
         assert!(with_editions.takes_edition(2) && !with_editions.takes_parent(0));
         let with_children = Landed { children: true, ..Landed::NOTHING };

@@ -25,6 +25,7 @@ mod random;
 mod readiness;
 mod records;
 mod registers;
+mod replay;
 mod run;
 mod selfcheck;
 mod setup;
@@ -47,14 +48,16 @@ use arguments::Arguments;
 use faults::{Fault, FAULTS};
 use generate::Of;
 use program::Program;
+use setup::Setup;
 
 const USAGE: &str = "usage:
   second run [--fault NAME] < stream > output
   second answers CARD TRACE [--fault NAME] > answers
-  second write --seed S --cases N [--sheets] > stream
-  second selfcheck [--seed S] [--cases N] [--sheets]
+  second replay CARD CAPTURE [--fault NAME] > answers
+  second write --seed S --cases N [--sheets | --captures] > stream
+  second selfcheck [--seed S] [--cases N] [--sheets | --captures]
   second faults [--seed S] [--cases N] [--table | --masks]
-  second compare PROGRAM [--seed S] [--cases N] [--sheets] [-- its own words]
+  second compare PROGRAM [--seed S] [--cases N] [--sheets | --captures] [-- its own words]
   second compare PROGRAM --stream FILE --expect FILE [-- its own words]
   second fuzz PROGRAM [--seed S] [--rounds N] [-- its own words]
   second sheets OTSNEBURA [--seed S] [--cases N] [-- its own words]
@@ -62,7 +65,7 @@ const USAGE: &str = "usage:
   second instructions [--only TRACE] [--records N]
   second memory [--records N]
   second trace NAME [--records N] CARD TRACE
-  second count proved|rust CARD TRACE PIECE";
+  second count proved|rust|replay CARD TRACE PIECE";
 
 /// Whether a command found everything in order, or why it could not run.
 type Verdict = Result<bool, String>;
@@ -87,14 +90,14 @@ fn run_command(arguments: &Arguments) -> Verdict {
     }
 }
 
-/// Writes the answers of a trace file on a card file.
-fn answers_command(arguments: &Arguments) -> Verdict {
+/// Writes the answers of a trace file, or of a capture file, on a card file.
+fn answers_command(arguments: &Arguments, answers: fn(&Setup, &[u8], Fault) -> Vec<u8>) -> Verdict {
     let fault = arguments.text("--fault").map_or(Ok(Fault::None), fault_named)?;
     let [card, trace] = arguments.words.as_slice() else {
         return Err(USAGE.to_string());
     };
     let setup = card::read(&fs::read(card).map_err(text)?).ok_or("no card")?;
-    let answers = answers::answers(&setup, &fs::read(trace).map_err(text)?, fault);
+    let answers = answers(&setup, &fs::read(trace).map_err(text)?, fault);
     std::io::stdout().lock().write_all(&answers).map_err(text)?;
     Ok(true)
 }
@@ -115,9 +118,10 @@ fn write_command(arguments: &Arguments) -> Verdict {
 
 /// What the cases of a command are made of.
 fn of(arguments: &Arguments) -> Of {
-    match arguments.has("--sheets") {
-        true => Of::Sheets,
-        false => Of::Everything,
+    match (arguments.has("--sheets"), arguments.has("--captures")) {
+        (true, _) => Of::Sheets,
+        (false, true) => Of::Captures,
+        (false, false) => Of::Everything,
     }
 }
 
@@ -196,7 +200,8 @@ fn command() -> Verdict {
     let arguments = Arguments::read(given)?;
     match command.as_str() {
         "run" => run_command(&arguments),
-        "answers" => answers_command(&arguments),
+        "answers" => answers_command(&arguments, answers::answers),
+        "replay" => answers_command(&arguments, answers::replayed),
         "write" => write_command(&arguments),
         "selfcheck" => selfcheck_command(&arguments),
         "faults" => faults_command(&arguments),

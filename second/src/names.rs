@@ -1,6 +1,6 @@
 //! Names for the bytes of an operation's output.
 
-use crate::stream::{image_length, Case, Operation, STATUS_BYTES, TAKEN_BYTES};
+use crate::stream::{image_length, Case, Operation, REPLAY_BYTES, STATUS_BYTES, TAKEN_BYTES};
 
 pub const PORT_FIELDS: [(&str, usize); 15] = [
     ("clock", 8),
@@ -26,6 +26,14 @@ pub const STATUS_FIELDS: [(&str, usize); 6] = [
     ("FLR end", 8),
     ("set", 1),
     ("end of change", 8),
+];
+pub const REPLAY_FIELDS: [(&str, usize); 6] = [
+    ("begun", 1),
+    ("earlier stamp", 4),
+    ("stamp bytes taken", 1),
+    ("stamp bytes", 4),
+    ("advances answered", 1),
+    ("ended", 1),
 ];
 const READING_FIELDS: [(&str, usize); 4] = [("number", 1), ("kind", 1), ("ID", 2), ("reason", 1)];
 const ANSWER_FIELDS: [&str; 8] = [
@@ -90,6 +98,14 @@ fn feed_field(case: &Case, room: usize, offset: usize) -> String {
     }
 }
 
+fn replay_field(case: &Case, room: usize, offset: usize) -> String {
+    let image = 9 + room + image_length(&case.setup);
+    match offset.checked_sub(image) {
+        None => feed_field(case, room, offset),
+        Some(left) => format!("replay: {}", among(&REPLAY_FIELDS, left).unwrap_or("?")),
+    }
+}
+
 fn sheet_field(offset: usize) -> String {
     match offset {
         0 => "number".to_string(),
@@ -107,7 +123,8 @@ pub fn output_length(case: &Case, operation: &Operation) -> usize {
     match operation {
         Operation::SetUp => 1 + image,
         Operation::Feed { room, .. } => 9 + usize::from(*room) + image,
-        Operation::Lend { .. } => 0,
+        Operation::Replay { room, .. } => 9 + usize::from(*room) + image + REPLAY_BYTES,
+        Operation::Lend { .. } | Operation::LendReplay { .. } => 0,
         Operation::WriteMessage { room, .. } => 1 + usize::from(*room),
         Operation::ReadMessage(_) => READING_FIELDS.iter().map(|(_, length)| length).sum(),
         Operation::Sheet(_) => TAKEN_BYTES,
@@ -126,7 +143,10 @@ pub fn name(case: &Case, offset: usize) -> String {
                 Operation::Feed { room, .. } => {
                     ("feed", feed_field(case, usize::from(*room), left))
                 }
-                Operation::Lend { .. } => ("lend", String::new()),
+                Operation::Replay { room, .. } => {
+                    ("replay", replay_field(case, usize::from(*room), left))
+                }
+                Operation::Lend { .. } | Operation::LendReplay { .. } => ("lend", String::new()),
                 Operation::WriteMessage { .. } if left == 0 => ("write", "number".to_string()),
                 Operation::WriteMessage { .. } => ("write", format!("message byte {}", left - 1)),
                 Operation::ReadMessage(_) => {

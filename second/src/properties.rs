@@ -9,7 +9,7 @@ use crate::random::Random;
 use crate::run::{run_case, run_stream, Ended};
 use crate::selfcheck::check_case;
 use crate::setup::Setup;
-use crate::stream::{put_case, Bad, Case, Operation, Source, PORT_BYTES, VERSION};
+use crate::stream::{image_length, put_case, Bad, Case, Operation, Source, PORT_BYTES, VERSION};
 
 const SEED: u64 = 77;
 
@@ -108,7 +108,7 @@ fn any_cuts_give_what_one_trace_gives() {
 fn soundness_is_kept_and_refusals_change_nothing() {
     let mut coverage = Coverage::new();
     let mut out = Vec::new();
-    for number in 0..6000 {
+    for number in 0..10_000 {
         let case = generate::case(SEED, number);
         check_case(&case, &mut coverage, &mut out).unwrap();
     }
@@ -150,7 +150,7 @@ fn read_back(stream: &[u8]) -> Case {
 fn without_noise(case: &Case) -> Case {
     let mut case = case.clone();
     for operation in &mut case.operations {
-        if let Operation::Lend { noise, .. } = operation {
+        if let Operation::Lend { noise, .. } | Operation::LendReplay { noise, .. } = operation {
             *noise = 0;
         }
     }
@@ -220,6 +220,43 @@ fn names_tell_the_fields_of_a_sheet() {
         assert_eq!(names::name(&case, at), format!("operation 0 (sheet), {field}"));
     }
     assert_eq!(names::name(&case, 259), "operation 1 (sheet), number");
+}
+
+#[test]
+fn names_tell_the_fields_of_a_replay() {
+    let (mut case, room) = (Of::Captures.case(SEED, 0), 16u16);
+    case.operations = vec![Operation::Replay { room, input: Vec::new() }];
+    let image = 9 + usize::from(room) + image_length(&case.setup);
+    let fields = [
+        (0, "number"),
+        (1, "bytes consumed"),
+        (8, "bytes written"),
+        (9, "answer byte 0 of record 0 (status)"),
+        (9 + usize::from(room), "clock"),
+        (image, "replay: begun"),
+        (image + 4, "replay: earlier stamp"),
+        (image + 5, "replay: stamp bytes taken"),
+        (image + 9, "replay: stamp bytes"),
+        (image + 10, "replay: advances answered"),
+        (image + 11, "replay: ended"),
+    ];
+    for (at, field) in fields {
+        assert_eq!(names::name(&case, at), format!("operation 0 (replay), {field}"));
+    }
+}
+
+#[test]
+fn cases_of_captures_reach_all_that_they_can() {
+    let mut coverage = Coverage::new();
+    let mut calls = 0;
+    for number in 0..4000 {
+        let case = Of::Captures.case(SEED, number);
+        let is_replay = |one: &&Operation| matches!(one, Operation::Replay { .. });
+        calls += case.operations.iter().filter(is_replay).count();
+        check_case(&case, &mut coverage, &mut Vec::new()).unwrap();
+    }
+    assert_eq!(coverage.missing(Of::Captures), Vec::<String>::new());
+    assert!((36_000..48_000).contains(&calls), "{calls}");
 }
 
 #[test]

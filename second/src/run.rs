@@ -7,10 +7,13 @@ use crate::faults::Fault;
 use crate::feed::Fed;
 use crate::messages::{self, Message, Unreadable, Unwritable};
 use crate::registers::Table;
+use crate::replay::{Replay, Replayed};
 use crate::setup::{SlotEntry, MOST_SLOTS};
 use crate::sheets::Taken;
-use crate::state::State;
-use crate::stream::{put_image, put_image_with, put_taken, Bad, Case, Operation, Source, Trouble};
+use crate::state::{Port, State};
+use crate::stream::{
+    put_image, put_image_with, put_replay, put_taken, Bad, Case, Operation, Source, Trouble,
+};
 
 /// What every answer byte is before a feed, and every byte of a message's room before it is written.
 pub const UNTOUCHED: u8 = 0xEE;
@@ -45,6 +48,15 @@ pub struct Sheet {
     pub taken: Taken,
 }
 
+/// A replay call, what it found, and what came of it.
+pub struct ReplayCall {
+    pub input: Vec<u8>,
+    pub room: usize,
+    pub before: Replay,
+    pub port_before: Port,
+    pub replayed: Replayed,
+}
+
 /// What an operation gave, beside the bytes written for it.
 pub enum Gave {
     SetUp(u8),
@@ -53,6 +65,8 @@ pub enum Gave {
     Wrote(Wrote),
     Reading(Reading),
     Sheet(Box<Sheet>),
+    Replay(Box<ReplayCall>),
+    LentReplay { noise: bool },
 }
 
 /// Runs one operation and writes its output.
@@ -67,6 +81,9 @@ pub fn run_operation(bench: &mut Bench, operation: &Operation, out: &mut Vec<u8>
         Operation::Feed { room, input } => Gave::Feed(run_feed(bench, *room, input, out)),
         Operation::Lend { state, noise } => {
             bench.state = (**state).clone();
+            if bench.has(Fault::ReplayFreshAtLend) {
+                bench.replay = Replay::FRESH;
+            }
             Gave::Lent { noise: *noise != 0 }
         }
         Operation::WriteMessage { kind, id, reason, room } => {
@@ -86,18 +103,53 @@ pub fn run_operation(bench: &mut Bench, operation: &Operation, out: &mut Vec<u8>
             Gave::Reading(Reading { given, bytes: bytes.clone(), refused })
         }
         Operation::Sheet(text) => Gave::Sheet(Box::new(run_sheet(bench, text, out))),
+        Operation::Replay { room, input } => {
+            Gave::Replay(Box::new(run_replay(bench, *room, input, out)))
+        }
+        Operation::LendReplay { replay, noise } => {
+            if !bench.has(Fault::ReplayLendForgotten) {
+                bench.replay = *replay;
+            }
+            Gave::LentReplay { noise: *noise != 0 }
+        }
     }
 }
 
 fn run_feed(bench: &mut Bench, room: u16, input: &[u8], out: &mut Vec<u8>) -> Fed {
     let mut answers = vec![UNTOUCHED; usize::from(room)];
     let fed = bench.feed(input, &mut answers);
+    put_fed(&fed, &answers, out);
+    put_state(&bench.state, bench.fault, out);
+    fed
+}
+
+/// Number, counts and the whole room.
+fn put_fed(fed: &Fed, answers: &[u8], out: &mut Vec<u8>) {
     out.push(fed.number);
     out.extend((fed.consumed as u32).to_le_bytes());
     out.extend((fed.written as u32).to_le_bytes());
-    out.extend(&answers);
+    out.extend(answers);
+}
+
+fn run_replay(bench: &mut Bench, room: u16, input: &[u8], out: &mut Vec<u8>) -> ReplayCall {
+    let (before, port_before) = (bench.replay, bench.state.port.clone());
+    let mut answers = vec![UNTOUCHED; usize::from(room)];
+    let replayed = bench.replay(input, &mut answers);
+    put_fed(&replayed.fed, &answers, out);
     put_state(&bench.state, bench.fault, out);
-    fed
+    put_replay_state(bench, replayed.fed.number, out);
+    let (input, room) = (input.to_vec(), answers.len());
+    ReplayCall { input, room, before, port_before, replayed }
+}
+
+fn put_replay_state(bench: &Bench, number: u8, out: &mut Vec<u8>) {
+    let mut replay = bench.replay;
+    match bench.fault {
+        Fault::ReplayImageLeftOut if (1..=5).contains(&number) => return,
+        Fault::ReplayBytesOf4Shown if replay.taken > 4 => replay.bytes = [0; 4],
+        _ => {}
+    }
+    put_replay(&replay, out);
 }
 
 fn run_sheet(bench: &mut Bench, text: &[u8], out: &mut Vec<u8>) -> Sheet {
@@ -264,8 +316,37 @@ mod tests {
     }
 
     #[test]
+    fn a_replay_image_comes_back_without_what_is_ignored() {
+        let lent = [0, 9, 9, 9, 9, 2, 5, 6, 7, 8, 200, 77];
+        let call = [6, 0, 0, 0, 0];
+        let (ended, output) = run(&[&[7], &lent[..], &call, &[0]].concat());
+        assert_eq!(ended, Ended::AtItsEnd);
+        let image = [0, 0, 0, 0, 0, 2, 5, 6, 0, 0, 200, 77];
+        assert_eq!(output, [&[1], &[0; 8 + 46][..], &image].concat());
+        let lent = [1, 9, 9, 9, 9, 255, 5, 6, 7, 8, 1, 2];
+        let (_, output) = run(&[&[7], &lent[..], &call, &[0]].concat());
+        assert_eq!(output[55..], lent);
+        let (ended, output) = run(&[&[7, 2], &lent[1..], &call, &[0]].concat());
+        assert_eq!((ended, output), (Ended::BadCase(Bad::Begun), Vec::new()));
+    }
+
+    #[test]
+    fn a_replay_of_4096_bytes_is_read_and_a_longer_one_is_bad() {
+        for (room, input, way) in [
+            (4096, 4096, None),
+            (4097, 0, Some(Bad::ReplayRoom)),
+            (0, 4097, Some(Bad::ReplayInput)),
+        ] {
+            let lengths = [u16::to_le_bytes(room), u16::to_le_bytes(input)].concat();
+            let bytes = vec![0; usize::from(input)];
+            let (ended, _) = run(&[&[6], &lengths[..], &bytes, &[0]].concat());
+            assert_eq!(ended, way.map_or(Ended::AtItsEnd, Ended::BadCase));
+        }
+    }
+
+    #[test]
     fn other_operations_are_bad_and_the_output_before_them_stands() {
-        for operation in (0x05..=0x0C).chain([0x0F, 0x10, 0xFF]) {
+        for operation in [0x05].into_iter().chain(0x08..=0x0C).chain([0x0F, 0x10, 0xFF]) {
             let (ended, output) = run(&[0x0E, 0, operation, 0, 0, 0]);
             let way = if operation > 0x0E { Bad::Operation } else { Bad::NotLanded };
             assert_eq!(ended, Ended::BadCase(way));

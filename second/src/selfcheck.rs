@@ -9,7 +9,8 @@ use crate::faults::Fault;
 use crate::generate::Of;
 use crate::messages::{self, Message, MESSAGE_LENGTH};
 use crate::random::Random;
-use crate::run::{run_operation, Gave, Reading, Sheet, Wrote, UNTOUCHED};
+use crate::replay::Replay;
+use crate::run::{run_operation, Gave, Reading, ReplayCall, Sheet, Wrote, UNTOUCHED};
 use crate::setup::SlotEntry;
 use crate::sheets::{self, Line};
 use crate::state::State;
@@ -20,7 +21,8 @@ fn wrong(before: &State, bench: &Bench, gave: &Gave) -> Option<&'static str> {
     let number = match gave {
         Gave::SetUp(number) => *number,
         Gave::Feed(fed) => fed.number,
-        Gave::Lent { .. } => return None,
+        Gave::Lent { .. } | Gave::LentReplay { .. } => return None,
+        Gave::Replay(call) => return wrong_replay(before, bench, call),
         Gave::Wrote(wrote) => return wrong_write(wrote),
         Gave::Reading(reading) => return wrong_reading(reading),
         Gave::Sheet(sheet) => return wrong_sheet(sheet, *before != bench.state),
@@ -29,6 +31,31 @@ fn wrong(before: &State, bench: &Bench, gave: &Gave) -> Option<&'static str> {
         return (*before != bench.state).then_some("a refusal changed the state");
     }
     bench.is_unsound().then_some("soundness was not kept")
+}
+
+/// A refused call and one after the end change nothing; another leaves a sound state and a replay state that matches.
+fn wrong_replay(before: &State, bench: &Bench, call: &ReplayCall) -> Option<&'static str> {
+    let number = call.replayed.fed.number;
+    let changed = *before != bench.state || call.before != bench.replay;
+    if (1..=5).contains(&number) {
+        return changed.then_some("a refusal changed the state");
+    }
+    if call.before.ended != 0 {
+        return (changed || number != call.before.ended).then_some("an ended replay went on");
+    }
+    if bench.is_unsound() {
+        return Some("soundness was not kept");
+    }
+    if bench.replay_does_not_match() {
+        return Some("a replay left a state that doesn't match");
+    }
+    let ended = if [32, 33].contains(&number) { number } else { 0 };
+    (bench.replay.ended != ended).then_some("a replay ended otherwise than by its number")
+}
+
+/// Whether an operation other than a replay or the lending of its state changed that state.
+fn replay_touched(before: &Replay, bench: &Bench, gave: &Gave) -> bool {
+    !matches!(gave, Gave::Replay(_) | Gave::LentReplay { .. }) && *before != bench.replay
 }
 
 /// A message written is read back as it was; one refused is refused for something, and its room stays.
@@ -94,10 +121,13 @@ pub fn check_case(case: &Case, coverage: &mut Coverage, out: &mut Vec<u8>) -> Re
     let mut bench = Bench::new(&case.setup, Fault::None);
     coverage.begin_case();
     for (index, operation) in case.operations.iter().enumerate() {
-        let before = bench.state.clone();
+        let (before, replay) = (bench.state.clone(), bench.replay);
         out.clear();
         let gave = run_operation(&mut bench, operation, out);
         coverage.note(&gave, &bench);
+        if replay_touched(&replay, &bench, &gave) {
+            return Err(format!("operation {index}: the replay state changed"));
+        }
         if let Some(what) = wrong(&before, &bench, &gave) {
             return Err(format!("operation {index}: {what}"));
         }

@@ -1,6 +1,10 @@
 //! A case in readable form, and as hex.
 
+use crate::bench::Bench;
+use crate::faults::Fault;
 use crate::records::record_length;
+use crate::replay::{Replay, STAMP_BYTES};
+use crate::run::run_operation;
 use crate::setup::{Setup, SlotEntry};
 use crate::sheets::LINE_END;
 use crate::state::{Port, State, Status};
@@ -20,6 +24,34 @@ pub fn split_records(input: &[u8]) -> Vec<&[u8]> {
         left = &left[length..];
     }
     pieces
+}
+
+/// Cuts a capture into stamps and records, from its front; so many bytes there belong to what came before.
+pub fn split_captured(input: &[u8], before: usize) -> Vec<&[u8]> {
+    let (first, mut left) = input.split_at(before.min(input.len()));
+    let mut pieces: Vec<&[u8]> =
+        Some(first).filter(|first| !first.is_empty()).into_iter().collect();
+    while !left.is_empty() {
+        let record = left.get(STAMP_BYTES).map_or(0, |kind| record_length(*kind).unwrap_or(1));
+        let (piece, rest) = left.split_at((STAMP_BYTES + record).min(left.len()));
+        pieces.push(piece);
+        left = rest;
+    }
+    pieces
+}
+
+/// How many bytes complete what a replay has begun: a record, or a stamp and its record.
+fn rest_of_captured(bench: &Bench, input: &[u8]) -> usize {
+    let (port, taken) = (&bench.state.port, usize::from(bench.replay.taken));
+    let rest = |kind: u8, count: usize| record_length(kind).unwrap_or(1).saturating_sub(count);
+    match usize::from(port.carried_count) {
+        0 if taken == 0 => 0,
+        0 => {
+            let stamp = STAMP_BYTES.saturating_sub(taken);
+            stamp + input.get(stamp).map_or(0, |kind| rest(*kind, 0))
+        }
+        count => rest(port.carried[0], count),
+    }
 }
 
 fn words(name: &str, words: &[u32]) -> String {
@@ -86,6 +118,22 @@ fn show_state(state: &State) -> String {
     text + &words("live words", &state.live) + &words("cells", &state.cells)
 }
 
+fn show_replay(replay: &Replay) -> String {
+    let Replay { earlier, taken, bytes, answered, ended } = replay;
+    let earlier = earlier.map_or("not begun".to_string(), |stamp| format!("earlier {}", stamp.0));
+    let bytes = hex(bytes);
+    format!("  {earlier}, {taken} stamp bytes of {bytes}, {answered} answered, ended {ended}\n")
+}
+
+/// A capture, cut where the bench that has run the case so far cuts it.
+fn show_capture(bench: &Bench, room: u16, input: &[u8]) -> String {
+    let mut text = format!("replay, room {room}, {} bytes\n", input.len());
+    for piece in split_captured(input, rest_of_captured(bench, input)) {
+        text += &format!("  {}\n", hex(piece));
+    }
+    text
+}
+
 /// The lines of a sheet, with every byte that isn't printed written out.
 fn show_sheet(text: &[u8]) -> String {
     let mut shown = format!("sheet, {} bytes\n", text.len());
@@ -95,7 +143,7 @@ fn show_sheet(text: &[u8]) -> String {
     shown
 }
 
-fn show_operation(operation: &Operation) -> String {
+fn show_operation(bench: &Bench, operation: &Operation) -> String {
     match operation {
         Operation::SetUp => "set-up\n".to_string(),
         Operation::Lend { state, noise: 0 } => format!("lend this state\n{}", show_state(state)),
@@ -118,14 +166,23 @@ fn show_operation(operation: &Operation) -> String {
             format!("read a message, {} bytes\n  {}\n", bytes.len(), hex(bytes))
         }
         Operation::Sheet(text) => show_sheet(text),
+        Operation::Replay { room, input } => show_capture(bench, *room, input),
+        Operation::LendReplay { replay, noise: 0 } => {
+            format!("lend this replay state\n{}", show_replay(replay))
+        }
+        Operation::LendReplay { replay, .. } => {
+            format!("lend this replay state, with bytes that are ignored\n{}", show_replay(replay))
+        }
     }
 }
 
 /// The case, operation by operation, then its stream as hex.
 pub fn show(case: &Case) -> String {
     let mut text = show_setup(&case.setup);
+    let mut bench = Bench::new(&case.setup, Fault::None);
     for (index, operation) in case.operations.iter().enumerate() {
-        text += &format!("operation {index}: {}", show_operation(operation));
+        text += &format!("operation {index}: {}", show_operation(&bench, operation));
+        run_operation(&mut bench, operation, &mut Vec::new());
     }
     let mut stream = vec![VERSION];
     put_case(case, &mut stream);

@@ -1,9 +1,10 @@
 //! Making a failing case smaller while it still fails.
 
 use crate::messages::FRS;
+use crate::replay::{Replay, Stamp};
 use crate::setup::{SlotEntry, MOST_SLOTS, WORDS_PER_SLOT};
 use crate::sheets::LINE_END;
-use crate::show::split_records;
+use crate::show::{split_captured, split_records};
 use crate::state::{Cause, Port, State, Status};
 use crate::stream::{Case, Operation, MOST_BYTES};
 use crate::times::{Code, Nanos};
@@ -64,20 +65,37 @@ fn without_operations(case: &Case) -> Vec<Case> {
     all
 }
 
-/// The same case with two feeds that follow each other made one.
+/// The rooms and inputs of two calls made one, if it isn't too long.
+fn joined_calls(room: u16, input: &[u8], more: u16, rest: &[u8]) -> Option<(u16, Vec<u8>)> {
+    let room = usize::from(room + more).min(MOST_BYTES) as u16;
+    let input = [input, rest].concat();
+    (input.len() <= MOST_BYTES).then_some((room, input))
+}
+
+/// Two feeds, or two replays, made one.
+fn joined(one: &Operation, other: &Operation) -> Option<Operation> {
+    use Operation::{Feed, Replay};
+    match (one, other) {
+        (Feed { room, input }, Feed { room: more, input: rest }) => {
+            let (room, input) = joined_calls(*room, input, *more, rest)?;
+            Some(Feed { room, input })
+        }
+        (Replay { room, input }, Replay { room: more, input: rest }) => {
+            let (room, input) = joined_calls(*room, input, *more, rest)?;
+            Some(Replay { room, input })
+        }
+        _ => None,
+    }
+}
+
+/// The same case with two feeds, or two replays, that follow each other made one.
 fn joined_feeds(case: &Case) -> Vec<Case> {
     let mut all = Vec::new();
     for (index, pair) in case.operations.windows(2).enumerate() {
-        let [Operation::Feed { room, input }, Operation::Feed { room: more, input: rest }] = pair
-        else {
-            continue;
-        };
-        let room = usize::from(room + more).min(MOST_BYTES) as u16;
-        let input = [&input[..], rest].concat();
-        if input.len() <= MOST_BYTES {
+        if let Some(both) = joined(&pair[0], &pair[1]) {
             let mut next = case.clone();
             next.operations.remove(index);
-            next.operations[index] = Operation::Feed { room, input };
+            next.operations[index] = both;
             all.push(next);
         }
     }
@@ -128,7 +146,16 @@ fn fewer_cells(case: &Case) -> Vec<Case> {
 fn simpler_operations(operation: &Operation) -> Vec<Operation> {
     match operation {
         Operation::SetUp => Vec::new(),
-        Operation::Feed { room, input } => simpler_feeds(*room, input),
+        Operation::Feed { room, input } => {
+            let calls = simpler_calls(*room, input, &split_records(input)).into_iter();
+            calls.map(|(room, input)| Operation::Feed { room, input }).collect()
+        }
+        Operation::Replay { room, input } => {
+            let calls = simpler_calls(*room, input, &split_captured(input, 0)).into_iter();
+            let stamps = simpler_stamps(*room, input).into_iter();
+            calls.chain(stamps).map(|(room, input)| Operation::Replay { room, input }).collect()
+        }
+        Operation::LendReplay { replay, noise } => simpler_replays(replay, *noise),
         Operation::Lend { state, noise } => simpler_lends(state, *noise),
         Operation::WriteMessage { kind, id, reason, room } => {
             simpler_writes(*kind, *id, *reason, *room)
@@ -189,8 +216,30 @@ fn simpler_sheets(text: &[u8]) -> Vec<Operation> {
     texts.into_iter().map(Operation::Sheet).collect()
 }
 
-fn simpler_feeds(room: u16, input: &[u8]) -> Vec<Operation> {
-    let records = split_records(input);
+/// Each byte 0 in turn.
+fn simpler_stamps(room: u16, input: &[u8]) -> Vec<(u16, Vec<u8>)> {
+    let there = (0..input.len()).filter(|place| input[*place] != 0);
+    there.map(|place| (room, changed(&input.to_vec(), |next| next[place] = 0))).collect()
+}
+
+fn simpler_replays(replay: &Replay, noise: u64) -> Vec<Operation> {
+    let mut all = vec![Operation::LendReplay { replay: *replay, noise: 0 }];
+    for simpler in [
+        Replay::FRESH,
+        Replay { earlier: None, ..*replay },
+        Replay { earlier: replay.earlier.map(|_| Stamp(0)), ..*replay },
+        Replay { taken: 0, bytes: [0; 4], ..*replay },
+        Replay { bytes: [0; 4], ..*replay },
+        Replay { answered: 0, ..*replay },
+        Replay { ended: 0, ..*replay },
+    ] {
+        all.push(Operation::LendReplay { replay: simpler, noise });
+    }
+    all
+}
+
+/// Fewer records, fewer bytes, less room.
+fn simpler_calls(room: u16, input: &[u8], records: &[&[u8]]) -> Vec<(u16, Vec<u8>)> {
     let mut inputs = Vec::new();
     let mut run = records.len();
     while run > 0 {
@@ -203,12 +252,11 @@ fn simpler_feeds(room: u16, input: &[u8]) -> Vec<Operation> {
     for from in 0..input.len() {
         inputs.push([&input[..from], &input[from + 1..]].concat());
     }
-    let mut all: Vec<Operation> =
-        inputs.into_iter().map(|input| Operation::Feed { room, input }).collect();
+    let mut all: Vec<(u16, Vec<u8>)> = inputs.into_iter().map(|input| (room, input)).collect();
     let needed = (records.len() * 8) as u16;
     for smaller in [0, 8, needed, room / 2] {
         if smaller < room {
-            all.push(Operation::Feed { room: smaller, input: input.to_vec() });
+            all.push((smaller, input.to_vec()));
         }
     }
     all
@@ -349,6 +397,23 @@ mod tests {
             };
             assert_eq!(text.iter().filter(|byte| **byte == LINE_END).count(), lines);
             assert_eq!((small.setup.statuses, small.setup.cells), (0, 0));
+        }
+    }
+
+    #[test]
+    fn a_replay_shrinks_to_a_few_operations() {
+        for (fault, most) in [
+            (Fault::ReplayTickOf3, 3),
+            (Fault::ReplayHalfIsForward, 3),
+            (Fault::ReplayAdvancesRepeated, 4),
+            (Fault::ReplayEnded33BackTaken, 3),
+        ] {
+            let differs = |case: &Case| run_case(case, fault) != run_case(case, Fault::None);
+            let mut cases = (0..2000).map(|number| generate::case(2, number));
+            let found = cases.find(|case| differs(case));
+            let small = shrink(found.expect("the fault shows"), 3000, differs);
+            assert!(differs(&small));
+            assert!(small.operations.len() <= most, "{fault:?}: {}", small.operations.len());
         }
     }
 

@@ -1,13 +1,14 @@
 //! Streams that are bad in a given way: one field of a generated case set to what it must not hold.
 
 use crate::landed::LANDED;
-use crate::names::{PORT_FIELDS, STATUS_FIELDS};
+use crate::names::{PORT_FIELDS, REPLAY_FIELDS, STATUS_FIELDS};
 use crate::random::Random;
 use crate::setup::MOST_SLOTS;
 use crate::state::Status;
 use crate::stream::{
     image_length, put_case, Bad, Case, Operation, ENTRY_BYTES, FRONT_BYTES, MOST_BYTES,
-    MOST_MESSAGE, MOST_STATUSES, MOST_STREAM_CELLS, MOST_WORDS, PORT_BYTES, STATUS_BYTES, VERSION,
+    MOST_MESSAGE, MOST_STATUSES, MOST_STREAM_CELLS, MOST_WORDS, PORT_BYTES, REPLAY_BYTES,
+    STATUS_BYTES, VERSION,
 };
 
 /// Where a field stands in a stream, and what it is to hold.
@@ -58,7 +59,8 @@ struct Layout<'a> {
 fn operation_length(case: &Case, operation: &Operation) -> usize {
     1 + match operation {
         Operation::SetUp => 0,
-        Operation::Feed { input, .. } => 4 + input.len(),
+        Operation::Feed { input, .. } | Operation::Replay { input, .. } => 4 + input.len(),
+        Operation::LendReplay { .. } => REPLAY_BYTES,
         Operation::Lend { .. } => image_length(&case.setup),
         Operation::WriteMessage { .. } => 5,
         Operation::ReadMessage(bytes) => 1 + bytes.len(),
@@ -145,6 +147,7 @@ impl Layout<'_> {
 
     fn operation_spot(&self, random: &mut Random, way: Bad) -> Option<Spot> {
         let is_feed = |one: &Operation| matches!(one, Operation::Feed { .. });
+        let is_replay = |one: &Operation| matches!(one, Operation::Replay { .. });
         let any_operation = random.pick(&self.operations);
         match way {
             Bad::Operation => Spot::byte(any_operation, above(random, 0x0E)),
@@ -157,6 +160,17 @@ impl Layout<'_> {
             }
             Bad::Input => {
                 Spot::u16(self.operation(random, is_feed)? + 3, length_above(random, MOST_BYTES))
+            }
+            Bad::ReplayRoom => {
+                Spot::u16(self.operation(random, is_replay)? + 1, length_above(random, MOST_BYTES))
+            }
+            Bad::ReplayInput => {
+                Spot::u16(self.operation(random, is_replay)? + 3, length_above(random, MOST_BYTES))
+            }
+            Bad::Begun => {
+                let lends = |one: &Operation| matches!(one, Operation::LendReplay { .. });
+                let at = self.operation(random, lends)? + 1 + offset(&REPLAY_FIELDS, "begun");
+                Spot::byte(at, above(random, 1))
             }
             Bad::MessageRoom => {
                 let writes = |one: &Operation| matches!(one, Operation::WriteMessage { .. });
@@ -229,18 +243,18 @@ mod tests {
 
     #[test]
     fn a_spoiled_stream_is_bad_in_its_way_and_what_came_before_stands() {
+        let cases: Vec<Case> = (0..1500).map(|number| generate::case(8, number)).collect();
         for (way, name) in WAYS {
             let mut done = 0;
-            for number in 0..1500 {
+            for (number, case) in (0..).zip(&cases) {
                 let mut random = Random::for_case(9, number);
-                let case = generate::case(8, number);
-                let Some(stream) = spoiled(&mut random, &case, way) else {
+                let Some(stream) = spoiled(&mut random, case, way) else {
                     continue;
                 };
                 let mut output = Vec::new();
                 let ended = run_stream(&stream[..], &mut output, Fault::None).unwrap();
                 assert_eq!(ended, Ended::BadCase(way), "case {number}: {name}");
-                assert!(run_case(&case, Fault::None).starts_with(&output), "{name}");
+                assert!(run_case(case, Fault::None).starts_with(&output), "{name}");
                 done += 1;
             }
             assert!(done > 100, "{name}");
@@ -257,8 +271,9 @@ mod tests {
             assert_eq!(layout.operations.last(), Some(&(stream.len() - 1)));
         }
         let lengths = |fields: &[(&str, usize)]| fields.iter().map(|(_, length)| length).sum();
-        let lengths: [usize; 2] = [lengths(&PORT_FIELDS), lengths(&STATUS_FIELDS)];
-        assert_eq!(lengths, [PORT_BYTES, STATUS_BYTES]);
-        assert_eq!([PORT_BYTES, STATUS_BYTES], [46, 27]);
+        let fields = [&PORT_FIELDS[..], &STATUS_FIELDS, &REPLAY_FIELDS];
+        let lengths: [usize; 3] = fields.map(lengths);
+        assert_eq!(lengths, [PORT_BYTES, STATUS_BYTES, REPLAY_BYTES]);
+        assert_eq!(lengths, [46, 27, 12]);
     }
 }

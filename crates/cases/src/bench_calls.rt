@@ -1,6 +1,7 @@
-// The two calls that the cases drive.
+// The three calls that the cases drive.
 use crate::turn::Turn;
 use feed::Fed;
+use replay::Replayed;
 use set_up::SetUp;
 
 pub fn set_up_lent(
@@ -33,6 +34,33 @@ pub fn feed_lent(
         port,
         statuses,
         lent,
+        live,
+        defaults,
+        cells,
+        input,
+        answers,
+    )
+}
+
+pub fn replay_lent(
+    lent: usize,
+    turn: Turn,
+    live: &mut [u32],
+    defaults: &[u32],
+    cells: &mut [u32],
+    input: &[u8],
+    answers: &mut [u8],
+) -> Replayed {
+    let setup = turn.setup;
+    let port = turn.port;
+    let statuses = turn.statuses;
+    let state = turn.replay;
+    replay::replay(
+        setup,
+        port,
+        statuses,
+        lent,
+        state,
         live,
         defaults,
         cells,

@@ -1,12 +1,14 @@
-// Reads a stream of cases, version 2, from standard input, drives set-up, feed, time sheets and the reader and writer of messages, and
-// writes what they gave and the state afterwards. What the stream keeps for later requests has its default, or the stream is malformed. A
+// Reads a stream of cases, version 2, from standard input, drives set-up, feed, replay, time sheets and the reader and writer of
+// messages, and writes what they gave and the state afterwards. What the stream keeps for later requests has its default, or the stream is malformed. A
 // malformed stream ends it with `bad case` on standard error; what was written before stands.
 mod input; // bytes and words from standard input
 mod output; // bytes and words to standard output
 mod front; // what a case lends: lengths and the set-up
 mod turn; // what goes from one operation to the next
-mod bench_calls; // the two calls that the cases drive
+mod bench_calls; // the three calls that the cases drive
+mod calls; // what a call of feed or of replay reads and writes
 mod operations; // set-up, feed, and lending a state
+mod replay_operations; // replay, and lending the state of one
 mod sheet_operation; // a time sheet
 mod message_operations; // a message written, and one read
 mod running; // one case

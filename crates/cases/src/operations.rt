@@ -1,49 +1,22 @@
 // The operations on what is lent, and what each writes.
 use crate::bench_calls::feed_lent;
 use crate::bench_calls::set_up_lent;
+use crate::calls::Call;
+use crate::calls::after_call;
+use crate::calls::read_call;
+use crate::calls::write_answers;
 use crate::input::fill;
 use crate::input::read_words;
-use crate::output::write_first;
 use crate::output::write_number;
-use crate::output::write_words;
 use crate::turn::Turn;
 use crate::turn::ended;
-use crate::turn::turned;
+use crate::turn::with_port;
 use bits::at_most;
-use bits::u64_of_usize;
-use bits::usize_of_u16;
 use feed::Fed;
-use readiness::Setup;
-use readiness::Status;
-use records::Port;
-use state_image::numbers::put;
-use state_image::numbers::put_four;
-use state_image::numbers::two_at;
 use state_image::state::image_size;
 use state_image::state::is_good_image;
 use state_image::state::port_in;
-use state_image::state::state_bytes;
 use state_image::state::statuses_in;
-
-fn write_state(lent: usize, port: Port, statuses: [Status; 32], live: &[u32], cells: &[u32]) {
-    let image = state_bytes(port, statuses);
-    write_first(&image, image_size(lent));
-    write_words(live);
-    write_words(cells);
-}
-
-// After a call: the state is written.
-fn after_call(
-    lent: usize,
-    setup: Setup,
-    port: Port,
-    statuses: [Status; 32],
-    live: &[u32],
-    cells: &[u32],
-) -> Turn {
-    write_state(lent, port, statuses, live, cells);
-    turned(true, setup, port, statuses)
-}
 
 // 01
 pub fn set_up_operation(
@@ -57,37 +30,7 @@ pub fn set_up_operation(
     let port = made.port;
     let statuses = made.statuses;
     write_number(made.number);
-    after_call(lent, turn.setup, port, statuses, live, cells)
-}
-
-// A call's room and input length, and whether they and the input are there.
-pub struct Call {
-    pub good: bool,
-    pub room: usize,
-    pub n: usize,
-}
-
-// Room and input length, at most 4,096 each, and the input.
-fn read_call(input: &mut [u8]) -> Call {
-    let mut head = [0u8; 4];
-    let whole = fill(&mut head, 4);
-    let room = usize_of_u16(two_at(&head, 0));
-    let n = usize_of_u16(two_at(&head, 2));
-    Call {
-        good: whole & (room <= 4096) & fill(input, n),
-        room: room,
-        n: n,
-    }
-}
-
-// The number and the two counts, then the whole room.
-fn write_answers(fed: Fed, answers: &[u8], room: usize) {
-    let mut bytes = [0u8; 9];
-    put(&mut bytes, 0, fed.number);
-    put_four(&mut bytes, 1, u64_of_usize(fed.consumed));
-    put_four(&mut bytes, 5, u64_of_usize(fed.written));
-    write_first(&bytes, 9);
-    write_first(answers, room);
+    after_call(lent, turn, port, statuses, live, cells)
 }
 
 // Feeds the first n bytes of the input with so much room for answers.
@@ -140,8 +83,8 @@ pub fn feed_operation(
     );
     let port = fed.port;
     let statuses = fed.statuses;
-    write_answers(fed, &answers, call.room);
-    after_call(lent, turn.setup, port, statuses, live, cells)
+    write_answers(fed.number, fed.consumed, fed.written, &answers, call.room);
+    after_call(lent, turn, port, statuses, live, cells)
 }
 
 // Reads a state image; false where it is malformed, and where the input ends before.
@@ -159,8 +102,10 @@ fn read_state(lent: usize, image: &mut [u8], live: &mut [u32], cells: &mut [u32]
 }
 
 // 03: a state replaces what is lent.
-pub fn lend_operation(lent: usize, setup: Setup, live: &mut [u32], cells: &mut [u32]) -> Turn {
+pub fn lend_operation(lent: usize, turn: Turn, live: &mut [u32], cells: &mut [u32]) -> Turn {
     let mut image = [0u8; 910];
-    let good = read_state(lent, &mut image, live, cells);
-    turned(good, setup, port_in(&image), statuses_in(&image))
+    if !read_state(lent, &mut image, live, cells) {
+        return ended(turn, false);
+    }
+    with_port(turn, port_in(&image), statuses_in(&image))
 }

@@ -12,19 +12,14 @@ use crate::message_operations::write_operation;
 use crate::operations::feed_operation;
 use crate::operations::lend_operation;
 use crate::operations::set_up_operation;
+use crate::replay_operations::lend_replay_operation;
+use crate::replay_operations::replay_operation;
 use crate::sheet_operation::sheet_operation;
 use crate::turn::Turn;
 use crate::turn::ended;
-use crate::turn::turned;
+use crate::turn::first_turn;
 use crate::turn::went_by;
 use readiness::Setup;
-use readiness::all_down;
-use records::blank_port;
-
-// A case starts with everything at 0, statuses Down.
-fn first_turn(setup: Setup) -> Turn {
-    turned(true, setup, blank_port(), all_down())
-}
 
 // One operation; 00 ends the case, and any other number is a bad one.
 fn operate(
@@ -38,8 +33,10 @@ fn operate(
     match operation {
         1 => set_up_operation(lent, turn, live, defaults, cells),
         2 => feed_operation(lent, turn, live, defaults, cells),
-        3 => lend_operation(lent, turn.setup, live, cells),
+        3 => lend_operation(lent, turn, live, cells),
         4 => sheet_operation(turn),
+        6 => replay_operation(lent, turn, live, defaults, cells),
+        7 => lend_replay_operation(turn),
         0x0D => went_by(turn, write_operation()),
         0x0E => went_by(turn, read_operation()),
         _ => ended(turn, operation == 0),

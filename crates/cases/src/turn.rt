@@ -1,25 +1,30 @@
 // What goes from one operation of a case to the next, beside the lent slices.
+use capture::Replay;
 use readiness::Setup;
 use readiness::Status;
+use readiness::all_down;
 use records::Port;
+use records::blank_port;
 
-// Whether the case goes on, whether all was good so far, the set-up, the port and the statuses.
+// Whether the case goes on, whether all was good so far, the set-up, the port, the statuses and the state of the replay.
 pub struct Turn {
     pub goes_on: bool,
     pub good: bool,
     pub setup: Setup,
     pub port: Port,
     pub statuses: [Status; 32],
+    pub replay: Replay,
 }
 
-// After an operation; a bad one ends the case.
-pub fn turned(good: bool, setup: Setup, port: Port, statuses: [Status; 32]) -> Turn {
+// A case starts with everything at 0, statuses Down, and a replay that has taken nothing.
+pub fn first_turn(setup: Setup) -> Turn {
     Turn {
-        goes_on: good,
-        good: good,
+        goes_on: true,
+        good: true,
         setup: setup,
-        port: port,
-        statuses: statuses,
+        port: blank_port(),
+        statuses: all_down(),
+        replay: replay_state::stamps::fresh(),
     }
 }
 
@@ -35,6 +40,21 @@ pub fn went_by(turn: Turn, good: bool) -> Turn {
 pub fn with_setup(turn: Turn, setup: Setup) -> Turn {
     let mut next = turn;
     next.setup = setup;
+    next
+}
+
+// After an operation that leaves another port and other statuses.
+pub fn with_port(turn: Turn, port: Port, statuses: [Status; 32]) -> Turn {
+    let mut next = turn;
+    next.port = port;
+    next.statuses = statuses;
+    next
+}
+
+// After an operation that leaves another state of the replay.
+pub fn with_replay(turn: Turn, replay: Replay) -> Turn {
+    let mut next = turn;
+    next.replay = replay;
     next
 }
 

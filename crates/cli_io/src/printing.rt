@@ -1,5 +1,6 @@
 // Output that is written in large pieces: bytes wait in a buffer until it is full.
 ghost use mathlib.Core.Path.{_≡_};
+ghost use Prim.Native.Nat.{_≤_};
 ghost use lib.IntN.{pos};
 use crate::files::last_error;
 use bits::at_most;
@@ -52,7 +53,9 @@ fn is_short(count: usize, room: usize, wanted: usize) -> bool {
 }
 
 // Makes room for so many bytes more.
-pub fn make_room(fd: i32, buffer: &[u8], w: Waiting, wanted: usize) -> Waiting {
+pub fn make_room(fd: i32, buffer: &[u8], w: Waiting, wanted: usize) -> Waiting
+    ensures { λ r. ⌜ r .count ≤ w .count ⌝ }
+{
     if is_short(w.count, buffer.len(), wanted) {
         return flush(fd, buffer, w);
     }

@@ -1,7 +1,7 @@
 // A trace file: read in pieces, and taken record by record.
 ghost use mathlib.Core.Path.{_≡_};
 ghost use mathlib.Core.Bool.{false, _&&_};
-ghost use Prim.Native.Nat.{_+_, min};
+ghost use Prim.Native.Nat.{_+_, _≤_, min};
 ghost use lib.Dec.{leb, ltb};
 ghost use lib.IntN.{pos};
 ghost use lib.ListN.{getD, replicate};
@@ -75,7 +75,9 @@ fn moved_on(from: usize, to: usize, n: usize) -> usize
 }
 
 // The piece without its first n bytes, or without any.
-pub fn passed(piece: Piece, n: usize) -> Piece {
+pub fn passed(piece: Piece, n: usize) -> Piece
+    ensures { λ r. ⌜ r .from ≡ min (piece .from + n) (piece .to) ⌝ }
+{
     Piece {
         from: moved_on(piece.from, piece.to, n),
         to: piece.to,
@@ -140,7 +142,9 @@ pub fn is_full(held: Held) -> bool
 }
 
 // Takes bytes of a piece until the record is whole or the piece ends.
-pub fn take(first: Held, buffer: &[u8], from: usize, to: usize) -> Took {
+pub fn take(first: Held, buffer: &[u8], from: usize, to: usize) -> Took
+    ensures { λ r. ⌜ from ≤ r .from ⌝ }
+{
     let mut held = first;
     let mut i = from;
     while i < to && !is_full(held) {

@@ -115,8 +115,8 @@ fn print_port(printed: &mut [u8], w: Waiting, dev: Dev) -> Waiting {
     print_control(printed, b, control)
 }
 
-// Number, bytes consumed and records; clock and link; port bits; queue; slots.
-pub fn print_ending(
+// The state of the bench: clock and link; port bits; queue; slots.
+pub fn print_state(
     printed: &mut [u8],
     w: Waiting,
     slots: usize,
@@ -126,8 +126,19 @@ pub fn print_ending(
     let port = s.port;
     let dev = port.dev;
     let statuses = s.statuses;
+    let a = print_port(&mut *printed, w, dev);
+    let b = print_queue(&mut *printed, a, dev, cells);
+    print_slots(printed, b, slots, statuses)
+}
+
+// Number, bytes consumed and records; and the state.
+pub fn print_ending(
+    printed: &mut [u8],
+    w: Waiting,
+    slots: usize,
+    s: Session,
+    cells: &[u32],
+) -> Waiting {
     let a = print_end(&mut *printed, w, s);
-    let b = print_port(&mut *printed, a, dev);
-    let c = print_queue(&mut *printed, b, dev, cells);
-    print_slots(printed, c, slots, statuses)
+    print_state(printed, a, slots, s, cells)
 }

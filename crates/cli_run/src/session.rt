@@ -1,10 +1,9 @@
 // A trace that is fed: what goes from one call of the bench to the next.
 ghost use mathlib.Core.Path.{_≡_};
 ghost use mathlib.Core.Bool.{cond};
-ghost use Prim.Native.Nat.{_-_, _*_, min};
+ghost use Prim.Native.Nat.{_+_, _-_, _*_, _%_, _^_, min};
 ghost use lib.Dec.{eqb};
 use bits::at_most;
-use bits::byte_at;
 use bits::u64_of_usize;
 use cli_io::counts::minus;
 use cli_io::counts::plus;
@@ -68,8 +67,11 @@ pub fn begin(setup: Setup, live: &mut [u32], defaults: &[u32], cells: &mut [u32]
 
 // ---- A call of feed
 
-// After a call: 0 goes on, and so does 30, which wants room for answers.
-fn after(s: Session, fed: Fed, stopped_at: u8) -> Session {
+// After a call: 0 goes on, and so does 30, which wants room for answers. `stopped_at` is the byte after those that it consumed.
+pub fn after(s: Session, fed: Fed, stopped_at: u8) -> Session
+    ensures { λ r. ⌜ r .offset ≡ (s .offset + fed .consumed) % 2 ^ 64 ⌝ }
+    ensures { λ r. ⌜ r .port ≡ fed .port ⌝ }
+{
     let port = fed.port;
     let statuses = fed.statuses;
     Session {
@@ -85,51 +87,6 @@ fn after(s: Session, fed: Fed, stopped_at: u8) -> Session {
     }
 }
 
-fn feed_bytes(
-    setup: Setup,
-    s: Session,
-    live: &mut [u32],
-    defaults: &[u32],
-    cells: &mut [u32],
-    bytes: &[u8],
-    answers: &mut [u8],
-) -> Session {
-    let port = s.port;
-    let statuses = s.statuses;
-    let fed = bench_by_value::feed_first(
-        setup,
-        port,
-        statuses,
-        setup.slots,
-        live,
-        defaults,
-        cells,
-        bytes,
-        answers,
-    );
-    after(s, fed, byte_at(bytes, fed.consumed))
-}
-
-// Feeds the bytes from `from` up to `to`.
-pub fn feed_part(
-    setup: Setup,
-    s: Session,
-    live: &mut [u32],
-    defaults: &[u32],
-    cells: &mut [u32],
-    bytes: &[u8],
-    from: usize,
-    to: usize,
-    answers: &mut [u8],
-) -> Session {
-    if from <= to {
-        if to <= bytes.len() {
-            return feed_bytes(setup, s, live, defaults, cells, &bytes[from..to], answers);
-        }
-    }
-    s
-}
-
 // ---- What is wrong at the end
 
 // Where the record that is fed next, or carried, starts.
@@ -141,7 +98,9 @@ pub fn record_offset(s: Session) -> u64
 }
 
 // The byte that is no kind, or the record that is cut off, if there is either.
-pub fn fault_of(s: Session) -> Fault {
+pub fn fault_of(s: Session) -> Fault
+    ensures { λ r. ⌜ r .count ≡ cond (eqb (s .number) 31) 1 (s .port .«carried_len») ⌝ }
+{
     let port = s.port;
     let carried = port.carried;
     if s.number == 31 {

@@ -1,22 +1,23 @@
 // Turn by turn: a piece of the trace is read, and fed whole, or record by record with a line for each.
+ghost use mathlib.Core.Path.{_≡_};
+use crate::flow::Flow;
+use crate::flow::Way;
+use crate::flow::after_call;
+use crate::flow::first_flow;
+use crate::flow::has_bytes;
+use crate::flow::read_on;
+use crate::flow::with_lines;
+use crate::flow::with_room;
 use crate::session::Session;
-use crate::session::feed_part;
+use crate::session::after;
 use crate::session::record_offset;
 use bits::at_most;
-use cli_io::files::complain;
+use bits::byte_at;
 use cli_io::printing::Waiting;
 use cli_io::printing::end_line;
-use cli_io::printing::flush_out;
-use cli_io::printing::make_room;
-use cli_io::printing::nothing_waits;
 use cli_io::trace_file::Held;
-use cli_io::trace_file::PIECE;
-use cli_io::trace_file::Piece;
 use cli_io::trace_file::is_full;
 use cli_io::trace_file::nothing_held;
-use cli_io::trace_file::nothing_read;
-use cli_io::trace_file::passed;
-use cli_io::trace_file::read_piece;
 use cli_io::trace_file::take;
 use decode::gathering::size_of;
 use describe_trace::trace_words::put_incomplete;
@@ -24,92 +25,31 @@ use describe_trace::trace_words::put_run;
 use describe_trace::trace_words::put_unknown;
 use readiness::Setup;
 
-// Where the trace comes from and where the answers go (-1: nowhere), whether only the end is printed, and whether standard error shows
-// how far it is.
-pub struct Way {
-    pub trace: i32,
-    pub answers: i32,
-    pub quiet: bool,
-    pub progress: bool,
-}
-
-// What was read and not yet fed, and up to where it is fed next; the record that is fed, as far as its bytes are read; and the lines and
-// answers that wait to be written.
-pub struct Flow {
-    pub piece: Piece,
-    pub stop: usize,
-    pub held: Held,
-    pub out: Waiting,
-    pub kept: Waiting,
-}
-
-// What goes from turn to turn, beside what is lent.
+// What goes from turn to turn, beside what is lent; `held` is the record that is fed, as far as its bytes are read.
 pub struct Turn {
     pub goes_on: bool,
     pub session: Session,
     pub flow: Flow,
+    pub held: Held,
 }
 
 // A turn that goes on unless the trace is at its end, or something can't be read or written.
-fn turned(session: Session, flow: Flow) -> Turn {
-    let piece = flow.piece;
-    let out = flow.out;
-    let kept = flow.kept;
+fn turned(session: Session, flow: Flow, held: Held) -> Turn
+    ensures { λ r. ⌜ r .session ≡ session ⌝ }
+{
     Turn {
-        goes_on: session.goes_on & (out.error == 0) & (kept.error == 0) & (piece.error == 0),
+        goes_on: session.goes_on & flow.is_whole,
         session: session,
         flow: flow,
-    }
-}
-
-fn first_flow() -> Flow {
-    Flow {
-        piece: nothing_read(),
-        stop: 0,
-        held: nothing_held(),
-        out: nothing_waits(),
-        kept: nothing_waits(),
+        held: held,
     }
 }
 
 // The first turn after a set-up.
-pub fn first_turn(session: Session) -> Turn {
-    turned(session, first_flow())
-}
-
-// ---- Reading
-
-// On a terminal, every 16 MB show how far a long trace is.
-const STRIDE: u64 = 16777216;
-
-fn show_progress(way: Way, offset: u64) {
-    if way.progress {
-        if (offset > 0) & (offset % STRIDE < 65536) {
-            complain(b"\r");
-            io::print_decimal(libc::STDERR_FILENO, offset / 1048576);
-            complain(b" MB");
-        }
-    }
-}
-
-// The line of the progress ends.
-pub fn end_progress(way: Way, offset: u64) {
-    if way.progress & (offset >= STRIDE) {
-        complain(b"\n");
-    }
-}
-
-// The next piece is read; the lines that wait are written before.
-fn read_on(t: Turn, input: &mut [u8], printed: &[u8], way: Way) -> Turn {
-    let session = t.session;
-    let mut flow = t.flow;
-    let waits = flow.out;
-    show_progress(way, session.offset);
-    let out = flush_out(printed, waits);
-    let piece = read_piece(way.trace, input);
-    flow.out = out;
-    flow.piece = piece;
-    turned(session, flow)
+pub fn first_turn(session: Session) -> Turn
+    ensures { λ r. ⌜ r .session ≡ session ⌝ }
+{
+    turned(session, first_flow(), nothing_held())
 }
 
 // ---- Before a call
@@ -119,30 +59,24 @@ fn with_next(t: Turn, input: &[u8], way: Way) -> Turn {
     let session = t.session;
     let mut flow = t.flow;
     let piece = flow.piece;
-    let first = flow.held;
+    let first = t.held;
     if way.quiet {
         flow.stop = piece.to;
-        return turned(session, flow);
+        return turned(session, flow, first);
     }
     let took = take(first, input, piece.from, piece.to);
     let held = took.held;
     flow.stop = took.from;
-    flow.held = held;
-    turned(session, flow)
+    turned(session, flow, held)
 }
 
-// Room for one more answer is made.
-fn with_room(t: Turn, answers: &[u8], way: Way) -> Turn {
+// With room for one more answer.
+fn prepared(before: Turn, input: &[u8], answers: &[u8], way: Way) -> Turn {
+    let t = with_next(before, input, way);
     let session = t.session;
-    let mut flow = t.flow;
-    let waits = flow.kept;
-    let kept = make_room(way.answers, answers, waits, 8);
-    flow.kept = kept;
-    turned(session, flow)
-}
-
-fn prepared(t: Turn, input: &[u8], answers: &[u8], way: Way) -> Turn {
-    with_room(with_next(t, input, way), answers, way)
+    let flow = t.flow;
+    let held = t.held;
+    turned(session, with_room(flow, answers, way), held)
 }
 
 // ---- After a call
@@ -168,11 +102,11 @@ fn put_call(
     put_run(printed, at, offset, clock, item, answer)
 }
 
-// The line of a call, and what is held then.
-fn with_line(t: Turn, after: Session, printed: &mut [u8], answers: &[u8]) -> Flow {
+// The lines that wait after a call.
+fn with_line(t: Turn, after: Session, printed: &mut [u8], answers: &[u8]) -> Waiting {
     let before = t.session;
-    let mut flow = t.flow;
-    let held = flow.held;
+    let flow = t.flow;
+    let held = t.held;
     let waits = flow.out;
     let kept = flow.kept;
     let k = at_most(kept.count, answers.len());
@@ -184,44 +118,69 @@ fn with_line(t: Turn, after: Session, printed: &mut [u8], answers: &[u8]) -> Flo
         held,
         &answers[k..],
     );
-    let out = end_line(printed, waits, end);
-    let none = nothing_held();
-    flow.out = out;
-    flow.held = none;
-    flow
+    end_line(printed, waits, end)
 }
 
-// A line, where a whole record was fed, or a byte that is no kind.
-fn with_line_if_any(t: Turn, after: Session, printed: &mut [u8], answers: &[u8]) -> Flow {
+// The turn after a call: where a whole record was fed, or a byte that is no kind, its line is printed.
+fn concluded(t: Turn, after: Session, printed: &mut [u8], answers: &[u8]) -> Turn {
+    let held = t.held;
     let flow = t.flow;
-    let held = flow.held;
     if is_full(held) {
-        return with_line(t, after, printed, answers);
+        let shown = with_lines(flow, with_line(t, after, printed, answers));
+        return turned(
+            after,
+            after_call(shown, after.consumed, after.written),
+            nothing_held(),
+        );
     }
-    flow
+    turned(after, after_call(flow, after.consumed, after.written), held)
 }
 
-// So many answer bytes more wait.
-fn with_answers(w: Waiting, written: usize) -> Waiting {
-    let mut kept = w;
-    if written <= PIECE {
-        if w.count <= PIECE {
-            kept.count = w.count + written;
+// ---- A call of feed
+
+fn feed_bytes(
+    setup: Setup,
+    s: Session,
+    live: &mut [u32],
+    defaults: &[u32],
+    cells: &mut [u32],
+    bytes: &[u8],
+    answers: &mut [u8],
+) -> Session {
+    let port = s.port;
+    let statuses = s.statuses;
+    let fed = bench_by_value::feed_first(
+        setup,
+        port,
+        statuses,
+        setup.slots,
+        live,
+        defaults,
+        cells,
+        bytes,
+        answers,
+    );
+    after(s, fed, byte_at(bytes, fed.consumed))
+}
+
+// Feeds the bytes from `from` up to `to`.
+fn feed_part(
+    setup: Setup,
+    s: Session,
+    live: &mut [u32],
+    defaults: &[u32],
+    cells: &mut [u32],
+    bytes: &[u8],
+    from: usize,
+    to: usize,
+    answers: &mut [u8],
+) -> Session {
+    if from <= to {
+        if to <= bytes.len() {
+            return feed_bytes(setup, s, live, defaults, cells, &bytes[from..to], answers);
         }
     }
-    kept
-}
-
-// The turn after a call: its line is printed, its answers wait, and what it consumed is passed.
-fn concluded(t: Turn, after: Session, printed: &mut [u8], answers: &[u8]) -> Turn {
-    let mut flow = with_line_if_any(t, after, printed, answers);
-    let waits = flow.kept;
-    let piece = flow.piece;
-    let kept = with_answers(waits, after.written);
-    let rest = passed(piece, after.consumed);
-    flow.kept = kept;
-    flow.piece = rest;
-    turned(after, flow)
+    s
 }
 
 // ---- Turns
@@ -285,30 +244,27 @@ fn print_rest(s: Session, w: Waiting, printed: &mut [u8], quiet: bool) -> Waitin
 // The end of the file, perhaps within a record, which the bench carries.
 fn finished(t: Turn, printed: &mut [u8], way: Way) -> Turn {
     let mut session = t.session;
-    let mut flow = t.flow;
+    let flow = t.flow;
+    let held = t.held;
     let waits = flow.out;
     let piece = flow.piece;
     let quiet = way.quiet | (piece.error != 0);
     let out = print_rest(session, waits, printed, quiet);
-    flow.out = out;
     session.goes_on = false;
-    turned(session, flow)
+    turned(session, with_lines(flow, out), held)
 }
 
 // Without feeding: the next piece is read, or the trace is at its end.
 fn read_or_finish(t: Turn, input: &mut [u8], printed: &mut [u8], way: Way) -> Turn {
+    let session = t.session;
     let flow = t.flow;
+    let held = t.held;
     let piece = flow.piece;
     if piece.ended {
         return finished(t, printed, way);
     }
-    read_on(t, input, printed, way)
-}
-
-fn has_bytes(t: Turn) -> bool {
-    let flow = t.flow;
-    let piece = flow.piece;
-    piece.from < piece.to
+    let next = read_on(flow, session.offset, input, printed, way);
+    turned(session, next, held)
 }
 
 fn run_turn(
@@ -322,7 +278,8 @@ fn run_turn(
     answers: &mut [u8],
     way: Way,
 ) -> Turn {
-    if has_bytes(t) {
+    let flow = t.flow;
+    if has_bytes(flow) {
         return run_bytes(
             setup,
             t,

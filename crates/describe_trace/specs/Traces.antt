@@ -34,7 +34,7 @@ incompleteText offset kind count size =
     ++ named (chars " of its ") size
     ++ chars " bytes"
 
--- 01, "Numbers given for no"
+-- 01, "Numbers given for no", and 02, Q-5: 32 and 33
 unfoldable pub numberMeaning : ℕ → List ℕ
 numberMeaning n =
     cond (eqb n 0) (chars " (everything fed)")
@@ -44,7 +44,9 @@ numberMeaning n =
     (cond (eqb n 4) (chars " (a default with bit 15 or 21 of 78h or bits 1:0 of 44h set)")
     (cond (eqb n 5) (chars " (port or statuses unsound)")
     (cond (eqb n 30) (chars " (no room for an answer)")
-    (cond (eqb n 31) (chars " (the trace is broken: unknown kind)") [])))))))
+    (cond (eqb n 31) (chars " (the trace is broken: unknown kind)")
+    (cond (eqb n 32) (chars " (the recorder went back)")
+    (cond (eqb n 33) (chars " (an advance in a capture)") [])))))))))
 
 unfoldable pub numberText : ℕ → List ℕ
 numberText n = named (chars "number ") n ++ numberMeaning n

@@ -93,6 +93,8 @@ fn put_number_meaning(line: &mut [u8], at: usize, number: u8) -> usize
         5 => put_text(line, at, b" (port or statuses unsound)"),
         30 => put_text(line, at, b" (no room for an answer)"),
         31 => put_text(line, at, b" (the trace is broken: unknown kind)"),
+        32 => put_text(line, at, b" (the recorder went back)"),
+        33 => put_text(line, at, b" (an advance in a capture)"),
         _ => at,
     }
 }

@@ -1,7 +1,7 @@
 -- What a run leaves: the image part by part, and the numbers for no.
 use Prim.Native.Nat.{ℕ, _+_, _*_, _<_}
 use mathlib.Core.Path.{_≡_, refl, ap, _∙_}
-use mathlib.Core.Bool.{false}
+use mathlib.Core.Bool.{Bool, false}
 use mathlib.Core.List.{List, _++_, append-assoc}
 use native.Mathlib.Omega.{arith}
 use lib.ListN.{length, take, drop, replicate, length-append}
@@ -19,7 +19,7 @@ use Rattle.state_layout.proofs.Numbers.{length-low, length-words}
 use Rattle.state_layout.proofs.Steps.{length-state}
 use Rattle.card_grammar.specs.declared.CardRead.{CardRead}
 use Rattle.card_grammar.specs.Card.{cardOf}
-use Rattle.library_run.specs.Run.{shown, imageOf, imageBytes, imageSize, showing, runOnCard, runOf}
+use Rattle.library_run.specs.Run.{shown, imageOf, imageBytes, imageSize, showing, runOnCard, runOnText}
 
 -- ---- The image
 module _ (consumed written : ℕ) (port : Port) (s : List Status) (live cells : List ℕ) where
@@ -86,14 +86,14 @@ showed slots x lent =
 
 -- ---- The numbers for no
 -- 101 WHERE THE IMAGE IS TOO SHORT: nothing changes
-pub short-image : (read : CardRead) (words trace : List ℕ) (piece : ℕ) (answers lent : List ℕ)
+pub short-image : (captured : Bool) (piece : ℕ) (read : CardRead) (words input answers lent : List ℕ)
     → length lent < imageSize (atMost (read .setup .slots) 32) (atMost (read .queue) 4095)
-    → runOnCard read words trace piece answers lent ≡ shown 101 answers lent
+    → runOnCard captured piece read words input answers lent ≡ shown 101 answers lent
 unfolding runOnCard
-short-image read words trace piece answers lent h = when-true _ _ _ (lt-ltb _ _ h)
+short-image captured piece read words input answers lent h = when-true _ _ _ (lt-ltb _ _ h)
 
 -- 100 WHERE THE TEXT IS NO CARD: nothing changes
-pub no-card : (text trace : List ℕ) (piece : ℕ) (answers lent : List ℕ) → cardOf text (replicate 2048 0) .read .ok ≡ false
-    → runOf text trace piece answers lent ≡ shown 100 answers lent
-unfolding runOf
-no-card text trace piece answers lent e = when-false _ _ _ e
+pub no-card : (captured : Bool) (piece : ℕ) (text input answers lent : List ℕ) → cardOf text (replicate 2048 0) .read .ok ≡ false
+    → runOnText captured piece text input answers lent ≡ shown 100 answers lent
+unfolding runOnText
+no-card captured piece text input answers lent e = when-false _ _ _ e

@@ -1,6 +1,6 @@
--- What a run of a card's text and a trace gives.
+-- What a run of a card's text and a trace or a capture gives.
 use Prim.Native.Nat.{ℕ, _+_, _*_}
-use mathlib.Core.Bool.{cond}
+use mathlib.Core.Bool.{Bool, true, false, cond}
 use mathlib.Core.List.{List, _++_}
 use lib.Dec.{ltb}
 use lib.ListN.{length, take, drop, replicate}
@@ -11,6 +11,7 @@ use Rattle.readiness.specs.declared.Status.{Status}
 use Rattle.records.specs.declared.Port.{Port}
 use Rattle.demand3.specs.Held.{Held}
 use Rattle.trace_in_pieces.specs.Pieces.{blankHeld, runsOn}
+use Rattle.trace_in_pieces.specs.Captures.{replaysOn}
 use Rattle.state_layout.specs.Numbers.{lowFirst, wordBytes}
 use Rattle.state_layout.specs.Image.{stateBytes}
 use Rattle.card_grammar.specs.declared.CardRead.{CardRead}
@@ -50,17 +51,30 @@ showing slots x image = shown (x .number) (x .answers) (imageBytes slots x ++ dr
 abbrev pub freshFor : Setup → (slots cells : ℕ) → Held
 freshFor setup slots cells = blankHeld setup (replicate (64 * slots) 0) (replicate cells 0)
 
--- the run on a card that was read: 101 where the image is too short
-unfoldable pub runOnCard : CardRead → (words trace : List ℕ) (piece : ℕ) (answers image : List ℕ) → Shown
-runOnCard read words trace piece answers image =
+-- set-up, and then what is run: a capture, in one call, or a trace, in pieces of this size
+abbrev pub ranOn : (captured : Bool) (piece : ℕ) → Setup → (defaults : List ℕ) → Held → (input answers : List ℕ) → Left Held
+ranOn true piece setup defaults h input answers = replaysOn setup defaults h input answers
+ranOn false piece setup defaults h input answers = runsOn setup defaults piece h input answers
+
+-- on a card that was read: 101 where the image is too short
+unfoldable pub runOnCard : (captured : Bool) (piece : ℕ) → CardRead → (words input answers image : List ℕ) → Shown
+runOnCard captured piece read words input answers image =
     let slots = atMost (read .setup .slots) 32 in
     let cells = atMost (read .queue) 4095 in
     cond (ltb (length image) (imageSize slots cells))
     (shown 101 answers image)
-    (showing slots (runsOn (read .setup) (take (64 * slots) words) piece (freshFor (read .setup) slots cells) trace answers) image)
+    (showing slots (ranOn captured piece (read .setup) (take (64 * slots) words) (freshFor (read .setup) slots cells) input answers) image)
 
--- THE RUN: 100 where the text is refused
-unfoldable pub runOf : (text trace : List ℕ) (piece : ℕ) (answers image : List ℕ) → Shown
-runOf text trace piece answers image =
+-- on a card's text: 100 where the text is refused
+unfoldable pub runOnText : (captured : Bool) (piece : ℕ) → (text input answers image : List ℕ) → Shown
+runOnText captured piece text input answers image =
     let card = cardOf text (replicate 2048 0) in
-    cond (card .read .ok) (runOnCard (card .read) (card .words) trace piece answers image) (shown 100 answers image)
+    cond (card .read .ok) (runOnCard captured piece (card .read) (card .words) input answers image) (shown 100 answers image)
+
+-- THE RUN of a trace, in pieces of this size
+abbrev pub runOf : (text trace : List ℕ) (piece : ℕ) (answers image : List ℕ) → Shown
+runOf text trace piece answers image = runOnText false piece text trace answers image
+
+-- THE REPLAY of a capture
+abbrev pub replayOf : (text capture answers image : List ℕ) → Shown
+replayOf text capture answers image = runOnText true 0 text capture answers image

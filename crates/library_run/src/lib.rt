@@ -1,1 +1,1 @@
-// What a run of a card's text and a trace gives: all of it is in specs/ and proofs/. No code.
+// What a run of a card's text and a trace or a capture gives: all of it is in specs/ and proofs/. No code.

@@ -21,19 +21,47 @@ use cli_sheet::sheet_shown::sheet_command;
 use cli_tools::message::message_command;
 use cli_tools::pack::pack;
 use cli_tools::show::show;
+use cli_tools::show_capture::show_capture;
 
-fn show_command() -> Outcome {
-    if arg_count() != 3 {
-        return bad_usage(b"show wants one file, TRACE");
-    }
-    let fd = open_file(2);
+// ---- Show
+
+// Shows the trace that argument i names.
+fn show_trace(i: usize) -> Outcome {
+    let fd = open_file(i);
     if fd < 0 {
         return Outcome::Unusable;
     }
-    let outcome = show(fd, 2);
+    let outcome = show(fd, i);
     close_file(fd);
     outcome
 }
+
+// Shows the capture that argument i names.
+fn show_captured(i: usize) -> Outcome {
+    let fd = open_file(i);
+    if fd < 0 {
+        return Outcome::Unusable;
+    }
+    let outcome = show_capture(fd, i);
+    close_file(fd);
+    outcome
+}
+
+fn show_command() -> Outcome {
+    let first = arg_is(2, b"--capture");
+    if (arg_count() == 3) & !first {
+        return show_trace(2);
+    }
+    if (arg_count() == 4) & first {
+        return show_captured(3);
+    }
+    if (arg_count() == 4) & arg_is(3, b"--capture") {
+        return show_captured(2);
+    }
+    bad_usage(b"show wants one file, TRACE, or --capture and one file, CAPTURE")
+}
+
+// ---- Pack, card, sheet
 
 fn pack_command() -> Outcome {
     if arg_count() != 3 {
@@ -73,24 +101,21 @@ fn times_command() -> Outcome {
     })
 }
 
-// ---- Run
+// ---- Run, replay
 
 fn run_card(card: Loaded, words: &[u32], o: Options) -> Outcome {
-    let trace = open_file(o.input);
-    if trace < 0 {
+    let input = open_file(o.input);
+    if input < 0 {
         return Outcome::Unusable;
     }
     let setup = card.setup;
-    let outcome = run(setup, card.queue, words, o, trace);
-    close_file(trace);
+    let outcome = run(setup, card.queue, words, o, input);
+    close_file(input);
     outcome
 }
 
-fn run_command() -> Outcome {
-    let o = options_given();
-    if !is_run(o) {
-        return bad_usage(b"run wants CARD and TRACE, and takes --quiet and --answers FILE");
-    }
+// Runs a trace, or replays a capture.
+fn run_options(o: Options) -> Outcome {
     if overwrites_input(o) {
         return Outcome::Unusable;
     }
@@ -102,11 +127,31 @@ fn run_command() -> Outcome {
     loaded.outcome
 }
 
+fn run_command() -> Outcome {
+    let o = options_given();
+    if !is_run(o) {
+        return bad_usage(b"run wants CARD and TRACE, and takes --quiet and --answers FILE");
+    }
+    run_options(o)
+}
+
+fn replay_command() -> Outcome {
+    let mut o = options_given();
+    if !is_run(o) {
+        return bad_usage(b"replay wants CARD and CAPTURE, and takes --quiet and --answers FILE");
+    }
+    o.capture = true;
+    run_options(o)
+}
+
 // ---- Any command
 
 fn file_command() -> Outcome {
     if arg_is(1, b"run") {
         return run_command();
+    }
+    if arg_is(1, b"replay") {
+        return replay_command();
     }
     if arg_is(1, b"card") {
         return card_command();
@@ -120,7 +165,7 @@ fn file_command() -> Outcome {
     if arg_is(1, b"pack") {
         return pack_command();
     }
-    bad_usage(b"unknown command: expected run, card, sheet, code, show, pack or message")
+    bad_usage(b"unknown command: expected run, replay, card, sheet, code, show, pack or message")
 }
 
 pub fn command() -> Outcome {

@@ -22,13 +22,26 @@ fn help_commands() {
     say(
         b"                         (FILE is emptied once the card is set up; it can't be the card or the trace)\n",
     );
+    help_replay();
     say(b"  otsnebura card CARD    the card with each time code in ns\n");
     help_sheets();
     say(b"  otsnebura show TRACE   the records of a trace in words\n");
+    say(b"  otsnebura show --capture CAPTURE\n");
+    say(
+        b"                         the entries of a capture in words, with the differences of their stamps\n",
+    );
     say(b"  otsnebura pack HEX     hex text, with blanks and # comments, to raw bytes\n");
     say(b"  otsnebura message read HEX | drs ID | frs ID REASON\n");
     say(b"                         one 16-byte DRS or FRS, read or written, in hex\n");
     say(b"  otsnebura --help       this page\n\n");
+}
+
+fn help_replay() {
+    say(b"  otsnebura replay CARD CAPTURE [--quiet] [--answers FILE]\n");
+    say(
+        b"                         the same for a capture: a line for each record, and for each advance that its\n",
+    );
+    say(b"                         stamps stand for; FILE can't be the card or the capture\n");
 }
 
 fn help_sheets() {
@@ -63,6 +76,16 @@ fn help_trace() {
     say(b"  0D                                read status bits\n\n");
 }
 
+fn help_capture() {
+    say(b"CAPTURE is a file of entries: a stamp and then one record, any kind but 01.\n\n");
+    say(
+        b"  stamp(4), low byte first          the recorder's count of ticks, 4 ns each, that wraps to 0 after 4294967295\n\n",
+    );
+    say(
+        b"  The time from stamp to stamp, less than 2147483648 ticks (8589934592 ns), advances the clock; the first stamp doesn't.\n\n",
+    );
+}
+
 fn help_card() {
     say(b"CARD is text, one fact a line, # starts a comment:\n\n");
     say(b"  slots N                           1 to 32, before any slot or word\n");
@@ -85,13 +108,14 @@ fn help_sheet() {
 
 fn help_end() -> i32 {
     say(
-        b"Exit status: 0 done; 1 refused, or a broken or cut trace; 2 bad usage, or a file that can't be read or written.\n",
+        b"Exit status: 0 done; 1 refused, or a broken or cut trace or capture; 2 bad usage, or a file that can't be read or written.\n",
     )
 }
 
 pub fn help() -> Outcome {
     help_commands();
     help_trace();
+    help_capture();
     help_card();
     help_sheet();
     let error = after_printing(help_end());

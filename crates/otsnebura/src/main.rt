@@ -1,7 +1,8 @@
 // The command `otsnebura`: the test bench for people.
-mod options; // what stands after `run`
+mod options; // what stands after `run`, `replay` and `sheet`
 mod answers; // the file that `--answers` names
 mod help; // the page of help
+mod replaying; // `otsnebura replay`, after the set-up
 mod run; // `otsnebura run`
 mod commands; // the commands by their names
 

@@ -1,14 +1,16 @@
-// What stands after `run`: two files, --quiet and --answers FILE, in any order. After `sheet`: two files and --check.
+// What stands after `run` and `replay`: two files, --quiet and --answers FILE, in any order. After `sheet`: two files and --check.
 use cli_arguments::arguments::arg_count;
 use cli_arguments::arguments::arg_is;
 
 // Which argument is which, by its number, 0 where it isn't there.
 pub struct Options {
     pub card: usize,
-    // The trace, or the sheet.
+    // The trace, the capture, or the sheet.
     pub input: usize,
     pub answers: usize,
     pub quiet: bool,
+    // What is fed is a capture.
+    pub capture: bool,
     pub check: bool,
     // The next argument is the file of --answers.
     pub wants_file: bool,
@@ -22,13 +24,14 @@ fn no_options() -> Options {
         input: 0,
         answers: 0,
         quiet: false,
+        capture: false,
         check: false,
         wants_file: false,
         bad: false,
     }
 }
 
-// The first file is the card, the second the trace or the sheet.
+// The first file is the card, the second the trace, the capture or the sheet.
 fn with_file(o: Options, i: usize) -> Options {
     let mut p = o;
     if o.card == 0 {
@@ -114,7 +117,7 @@ fn is_whole(o: Options) -> bool {
     (o.card > 0) & (o.input > 0) & !o.wants_file & !o.bad & (arg_count() <= 8)
 }
 
-// Whether they are those of `run`.
+// Whether they are those of `run` or `replay`.
 pub fn is_run(o: Options) -> bool {
     is_whole(o) & !o.check
 }

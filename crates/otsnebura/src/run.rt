@@ -1,5 +1,7 @@
-// `otsnebura run CARD TRACE`: the card is set up, the trace is fed, and the end is printed.
+// `otsnebura run CARD TRACE`: the card is set up, the trace is fed, and the end is printed. The way to a replay is the same.
+use crate::answers::close_answers;
 use crate::options::Options;
+use crate::replaying::replay_session;
 use bits::at_most;
 use cli_arguments::outcome::Outcome;
 use cli_arguments::outcome::unless_error;
@@ -7,36 +9,22 @@ use cli_card::refusal::complain_refusal;
 use cli_io::files::after_printing;
 use cli_io::files::close_file;
 use cli_io::files::complain_read;
-use cli_io::files::complain_write;
-use cli_io::files::name_file;
 use cli_io::files::overwrite_file;
-use cli_io::printing::Waiting;
-use cli_io::printing::flush;
 use cli_io::printing::flush_out;
 use cli_io::trace_file::PIECE;
 use cli_io::trace_file::complain_fault;
 use cli_run::ending::print_ending;
+use cli_run::flow::Way;
+use cli_run::flow::end_progress;
 use cli_run::session::Session;
 use cli_run::session::begin;
 use cli_run::session::fault_of;
 use cli_run::session::fault_offset;
 use cli_run::session::words_of;
 use cli_run::turns::Turn;
-use cli_run::turns::Way;
-use cli_run::turns::end_progress;
 use cli_run::turns::first_turn;
 use cli_run::turns::run_all;
 use readiness::Setup;
-
-// The answers that wait are written: the error of that, or of an earlier write, 0 where there is none.
-fn close_answers(o: Options, way: Way, answers: &[u8], kept: Waiting) -> i32 {
-    let all = flush(way.answers, answers, kept);
-    if all.error != 0 {
-        name_file(o.answers);
-        complain_write(all.error);
-    }
-    all.error
-}
 
 // The end is printed, and all that waits is written: the error of that, 0 where there is none.
 fn close_printed(setup: Setup, t: Turn, cells: &[u32], printed: &mut [u8]) -> i32 {
@@ -77,7 +65,7 @@ fn close_run(
     let piece = flow.piece;
     let kept = flow.kept;
     end_progress(way, session.offset);
-    let lost = close_answers(o, way, answers, kept);
+    let lost = close_answers(o, way.answers, answers, kept);
     let unprinted = close_printed(setup, t, cells, printed);
     if piece.error != 0 {
         complain_read(o.input, session.offset, piece.error);
@@ -87,7 +75,7 @@ fn close_run(
     unless_error(lost, unless_error(unprinted, outcome_of_run(session)))
 }
 
-// Runs the trace after a set-up.
+// Runs the trace after a set-up, or replays the capture.
 fn run_session(
     setup: Setup,
     session: Session,
@@ -97,6 +85,9 @@ fn run_session(
     o: Options,
     way: Way,
 ) -> Outcome {
+    if o.capture {
+        return replay_session(setup, session, live, defaults, cells, o, way);
+    }
     let mut input = [0u8; PIECE];
     let mut printed = [0u8; PIECE];
     let mut answers = [0u8; PIECE];
@@ -114,7 +105,7 @@ fn run_session(
     close_run(setup, t, cells, &mut printed, &answers, o, way)
 }
 
-// ---- Where the trace comes from and the answers go
+// ---- Where what is fed comes from and the answers go
 
 // Progress is for a terminal that shows no lines of records.
 fn shows_progress(quiet: bool) -> bool {
@@ -122,16 +113,16 @@ fn shows_progress(quiet: bool) -> bool {
     (libc::isatty(libc::STDERR_FILENO) == 1) & (quiet | !out)
 }
 
-fn way_of(o: Options, trace: i32, answers: i32) -> Way {
+fn way_of(o: Options, input: i32, answers: i32) -> Way {
     Way {
-        trace: trace,
+        input: input,
         answers: answers,
         quiet: o.quiet,
         progress: shows_progress(o.quiet),
     }
 }
 
-// Runs the trace with answers to a file where one is named, which is opened here, after the set-up.
+// Runs it with answers to a file where one is named, which is opened here, after the set-up.
 fn run_answered(
     setup: Setup,
     session: Session,
@@ -139,7 +130,7 @@ fn run_answered(
     defaults: &[u32],
     cells: &mut [u32],
     o: Options,
-    trace: i32,
+    input: i32,
 ) -> Outcome {
     if o.answers == 0 {
         return run_session(
@@ -149,14 +140,14 @@ fn run_answered(
             defaults,
             cells,
             o,
-            way_of(o, trace, -1),
+            way_of(o, input, -1),
         );
     }
     let answers = overwrite_file(o.answers);
     if answers < 0 {
         return Outcome::Unusable;
     }
-    let way = way_of(o, trace, answers);
+    let way = way_of(o, input, answers);
     let outcome = run_session(setup, session, live, defaults, cells, o, way);
     close_file(answers);
     outcome
@@ -164,20 +155,20 @@ fn run_answered(
 
 // ---- Set-up
 
-// Sets the card up over what is lent, and runs the trace.
+// Sets the card up over what is lent, and runs what is fed.
 fn run_lent(
     setup: Setup,
     live: &mut [u32],
     defaults: &[u32],
     cells: &mut [u32],
     o: Options,
-    trace: i32,
+    input: i32,
 ) -> Outcome {
     let session = begin(setup, &mut *live, defaults, &mut *cells);
     if session.number != 0 {
         return complain_refusal(o.card, setup, session.number, defaults);
     }
-    run_answered(setup, session, live, defaults, cells, o, trace)
+    run_answered(setup, session, live, defaults, cells, o, input)
 }
 
 // Lends the first words and cells.
@@ -188,7 +179,7 @@ fn lend(
     defaults: &[u32],
     cells: &mut [u32],
     o: Options,
-    trace: i32,
+    input: i32,
 ) -> Outcome {
     let l = at_most(words_of(setup.slots), live.len());
     let d = at_most(words_of(setup.slots), defaults.len());
@@ -199,13 +190,13 @@ fn lend(
         &defaults[0..d],
         &mut cells[0..c],
         o,
-        trace,
+        input,
     )
 }
 
-// Runs an open trace on a card.
-pub fn run(setup: Setup, queue: usize, defaults: &[u32], o: Options, trace: i32) -> Outcome {
+// Runs an open trace on a card, or replays a capture.
+pub fn run(setup: Setup, queue: usize, defaults: &[u32], o: Options, input: i32) -> Outcome {
     let mut live = [0u32; 2048];
     let mut cells = [0u32; 4095];
-    lend(setup, queue, &mut live, defaults, &mut cells, o, trace)
+    lend(setup, queue, &mut live, defaults, &mut cells, o, input)
 }

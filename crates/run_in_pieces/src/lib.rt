@@ -1,15 +1,20 @@
-// A trace fed in pieces, after set-up, over lent memory.
+// A trace fed in pieces, or a capture replayed in one call, after set-up, over lent memory.
 ghost use mathlib.Core.Path.{_≡_};
 ghost use Prim.Native.Nat.{_<_, _≤_};
 ghost use Rattle.demand3.specs.Held.{held, lentOf};
+ghost use Rattle.demand3.specs.SettingUp.{setsUp};
+ghost use Rattle.set_up.specs.Prepared.{prepared};
 ghost use Rattle.feed.specs.Left.{left};
 ghost use Rattle.trace_in_pieces.specs.Pieces.{blankHeld, pieceOf, inPieces, runsOn};
+ghost use Rattle.trace_in_pieces.specs.Captures.{replaysOn};
 use feed::Fed;
 use readiness::Setup;
 use readiness::Status;
 use readiness::all_down;
 use records::Port;
 use records::blank_port;
+use replay_state::stamps::fresh;
+use set_up::SetUp;
 use settle::phases::in_numbers;
 use settle::phases::in_statuses;
 
@@ -82,6 +87,22 @@ fn feed_pieces(
     all_fed(number, consumed, written, port, in_statuses(phases))
 }
 
+// Set-up of a blank port with every slot Down.
+fn set_up_blank(setup: Setup, live: &mut [u32], defaults: &[u32], cells: &mut [u32]) -> SetUp
+    ensures { λ r. ⌜ prepared (setup .slots) r (now (live .exit)) (now (cells .exit))
+        ≡ setsUp setup (now (defaults .entry)) (blankHeld setup (now (live .entry)) (now (cells .entry))) ⌝ }
+{
+    set_up::set_up(
+        setup,
+        blank_port(),
+        all_down(),
+        setup.slots,
+        live,
+        defaults,
+        cells,
+    )
+}
+
 // Set-up, and then the trace in pieces; a set-up that is refused gets none of it.
 pub fn run_over(
     setup: Setup,
@@ -95,15 +116,7 @@ pub fn run_over(
     ensures { λ r. ⌜ left (setup .slots) r (now (live .exit)) (now (cells .exit)) (now (answers .exit))
         ≡ runsOn setup (now (defaults .entry)) size (blankHeld setup (now (live .entry)) (now (cells .entry))) (now (trace .entry)) (now (answers .entry)) ⌝ }
 {
-    let made = set_up::set_up(
-        setup,
-        blank_port(),
-        all_down(),
-        setup.slots,
-        &mut *live,
-        defaults,
-        &mut *cells,
-    );
+    let made = set_up_blank(setup, &mut *live, defaults, &mut *cells);
     let port = made.port;
     let statuses = made.statuses;
     if made.number != 0 {
@@ -120,4 +133,39 @@ pub fn run_over(
         size,
         answers,
     )
+}
+
+// Set-up, and then the capture in one call of a replay that has taken nothing; a set-up that is refused gets none of it.
+pub fn replay_over(
+    setup: Setup,
+    live: &mut [u32],
+    defaults: &[u32],
+    cells: &mut [u32],
+    capture: &[u8],
+    answers: &mut [u8],
+) -> Fed
+    ensures { λ r. ⌜ left (setup .slots) r (now (live .exit)) (now (cells .exit)) (now (answers .exit))
+        ≡ replaysOn setup (now (defaults .entry)) (blankHeld setup (now (live .entry)) (now (cells .entry))) (now (capture .entry)) (now (answers .entry)) ⌝ }
+{
+    let made = set_up_blank(setup, &mut *live, defaults, &mut *cells);
+    let port = made.port;
+    let statuses = made.statuses;
+    if made.number != 0 {
+        return all_fed(made.number, 0, 0, port, statuses);
+    }
+    let x = replay::replay(
+        setup,
+        port,
+        statuses,
+        setup.slots,
+        fresh(),
+        live,
+        defaults,
+        cells,
+        capture,
+        answers,
+    );
+    let after = x.port;
+    let moved = x.statuses;
+    all_fed(x.number, x.consumed, x.written, after, moved)
 }

@@ -25,15 +25,14 @@ fn run_fast(setup: &Setup, state: &mut State, operation: &Operation, out: &mut V
             *state = (**lent).clone();
             return;
         }
-        Operation::WriteMessage { .. } | Operation::ReadMessage(_) | Operation::Sheet(_) => return,
+        _ => return,
     }
     put_image(state, out);
 }
 
-/// The fast model has no message reader and writer apart from a trace, and no reader of sheets.
+/// The fast model has no message reader and writer apart from a trace, no reader of sheets and no replay.
 fn is_of_both(operation: &Operation) -> bool {
-    use Operation::{ReadMessage, Sheet, WriteMessage};
-    !matches!(operation, WriteMessage { .. } | ReadMessage(_) | Sheet(_))
+    matches!(operation, Operation::SetUp | Operation::Feed { .. } | Operation::Lend { .. })
 }
 
 /// What the images leave out: a refusal leaves the port as it was, and other calls leave zeros past the carried bytes.
@@ -46,7 +45,7 @@ fn carried_wrong(before: &State, after: &State, number: u8) -> bool {
     after.port.carried[count..].iter().any(|byte| *byte != 0)
 }
 
-/// Runs a case on both models; says at which operation they differ. Sheets are taken by the plain one for both.
+/// Runs a case on both models; says at which operation they differ. Sheets and captures are taken by the plain one for both.
 pub fn hold(case: &Case) -> Result<(), String> {
     let mut plain = Bench::new(&case.setup, Fault::None);
     let mut state = State::zero(&case.setup);
@@ -57,6 +56,9 @@ pub fn hold(case: &Case) -> Result<(), String> {
         let before = state.clone();
         run_operation(&mut plain, operation, &mut wanted);
         if !is_of_both(operation) {
+            if matches!(operation, Operation::Replay { .. }) {
+                state.clone_from(&plain.state);
+            }
             continue;
         }
         run_fast(&plain.setup, &mut state, operation, &mut given);

@@ -1,4 +1,4 @@
-//! A whole run, as the proved library's one export has it: a card's text and a trace in, answers and the final state out.
+//! A whole run, as the proved library's export has it: a card's text and a trace in, answers and the final state out.
 
 use crate::card;
 use crate::fast::{feed, set_up};
@@ -7,9 +7,9 @@ use crate::state::State;
 use crate::stream::{self, put_image};
 
 /// The card's text is refused.
-const BAD_CARD: u64 = 100;
+pub const BAD_CARD: u64 = 100;
 /// The image is too short.
-const SHORT_IMAGE: u64 = 101;
+pub const SHORT_IMAGE: u64 = 101;
 
 /// Bytes of the counts that stand before the state image: consumed and written.
 const COUNTS: usize = 16;
@@ -17,6 +17,13 @@ const COUNTS: usize = 16;
 /// How long the counts and the state image of this set-up are.
 pub fn image_length(setup: &Setup) -> usize {
     COUNTS + stream::image_length(setup)
+}
+
+/// Writes the counts of bytes consumed and written, and the state image behind them.
+pub fn put(state: &State, counts: [usize; 2], image: &mut [u8]) {
+    let mut bytes = counts.map(|count| (count as u64).to_le_bytes()).concat();
+    put_image(state, &mut bytes);
+    image[..bytes.len()].copy_from_slice(&bytes);
 }
 
 /// Sets the card up and feeds it the trace in pieces; a piece of 0 stands for the whole trace. Gives the last call's number,
@@ -42,11 +49,7 @@ pub fn run(card: &[u8], trace: &[u8], piece: usize, answers: &mut [u8], image: &
         consumed += fed.consumed;
         written += fed.written;
     }
-    let mut bytes = Vec::with_capacity(image_length(&setup));
-    bytes.extend((consumed as u64).to_le_bytes());
-    bytes.extend((written as u64).to_le_bytes());
-    put_image(&state, &mut bytes);
-    image[..bytes.len()].copy_from_slice(&bytes);
+    put(&state, [consumed, written], image);
     u64::from(number)
 }
 

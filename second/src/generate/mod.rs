@@ -1,9 +1,11 @@
 //! Cases made from a seed and a case number.
 
+pub mod captures;
 pub mod cards;
 mod damage;
 mod messages;
 pub mod records;
+mod replays;
 mod script;
 pub mod setups;
 pub mod sheets;
@@ -17,7 +19,7 @@ use script::Script;
 /// The case with this number of this seed.
 pub fn case(seed: u64, number: u64) -> Case {
     let mut random = Random::for_case(seed, number);
-    match random.weighted(&[140, 160, 280, 375, 40, 50, 5, 60, 60]) {
+    match random.weighted(&[140, 160, 280, 375, 40, 50, 5, 60, 80, 160, 140, 130, 4]) {
         0 => bad_set_up(&mut random),
         1 => unsound_state(&mut random),
         2 => made_up_state(&mut random),
@@ -26,8 +28,17 @@ pub fn case(seed: u64, number: u64) -> Case {
         5 => messages_alone(&mut random),
         6 => long_trace(&mut random),
         7 => sheets_and_traces(&mut random),
-        _ => sheets_alone(&mut random),
+        8 => sheets_alone(&mut random),
+        9 => captures_and_traces(&mut random),
+        10 => lent_replay(&mut random),
+        11 => captures_alone(&mut random),
+        _ => long_capture(&mut random),
     }
+}
+
+/// The case with this number of this seed that is made of captures alone.
+pub fn case_of_captures(seed: u64, number: u64) -> Case {
+    captures_alone(&mut Random::for_case(!seed.rotate_left(32), number))
 }
 
 /// The case with this number of this seed that is made of sheets alone.
@@ -40,6 +51,7 @@ pub fn case_of_sheets(seed: u64, number: u64) -> Case {
 pub enum Of {
     Everything,
     Sheets,
+    Captures,
 }
 
 impl Of {
@@ -48,6 +60,7 @@ impl Of {
         match self {
             Of::Everything => case(seed, number),
             Of::Sheets => case_of_sheets(seed, number),
+            Of::Captures => case_of_captures(seed, number),
         }
     }
 }
@@ -73,6 +86,9 @@ fn bad_set_up(random: &mut Random) -> Case {
             script.sheet(random);
         }
         script.feed_something(random);
+        if random.chance(50) {
+            script.replay_on_any_state(random);
+        }
         if random.chance(30) {
             script.set_up();
         }
@@ -87,6 +103,9 @@ fn unsound_state(random: &mut Random) -> Case {
         let state = states::unsound(random, script.setup(), clause);
         script.lend(random, state);
         script.feed_something(random);
+        if random.chance(40) {
+            script.replay_on_any_state(random);
+        }
         if random.chance(25) {
             script.set_up();
             script.feed_trace(random, 4);
@@ -196,4 +215,74 @@ fn sheets_alone(random: &mut Random) -> Case {
     let texts = (0..count).map(|_| sheets::any(random, setup.slots));
     let operations = texts.map(Operation::Sheet).collect();
     Case { setup, operations }
+}
+
+/// Captures after a set-up or on a sound state, with feeds, set-ups and lent states between their calls.
+fn captures_and_traces(random: &mut Random) -> Case {
+    let setup = setups::good(random);
+    finish(setup, |script| {
+        if random.chance(60) {
+            script.set_up();
+        } else {
+            let state = states::sound(random, script.setup());
+            script.lend(random, state);
+            script.lend_matching(random);
+        }
+        if random.chance(60) {
+            script.replay_scenario(random);
+        }
+        for _ in 0..1 + random.below(3) {
+            script.between_replays(random);
+            let records = 1 + random.below(8);
+            script.replay_capture(random, records);
+        }
+        script.after_the_end(random);
+    })
+}
+
+/// A replay state lent that matches, or one with a clause broken; then replays.
+fn lent_replay(random: &mut Random) -> Case {
+    let setup = setups::good(random);
+    finish(setup, |script| {
+        for _ in 0..1 + random.below(2) {
+            script.lend_replay_state(random);
+            let records = random.below(4);
+            script.replay_capture(random, records);
+        }
+        script.after_the_end(random);
+    })
+}
+
+/// Hundreds of stamped records in one call, up to 4,096 bytes and as much room.
+fn long_capture(random: &mut Random) -> Case {
+    let setup = setups::small(random);
+    finish(setup, |script| {
+        script.set_up();
+        script.replay_scenario(random);
+        script.replay_at_length(random);
+    })
+}
+
+/// Captures alone on small set-ups, some ten calls a case.
+fn captures_alone(random: &mut Random) -> Case {
+    let bad = random.chance(4);
+    let setup = if bad { setups::small_and_bad(random) } else { setups::small(random) };
+    finish(setup, |script| {
+        script.set_up();
+        if bad {
+            for _ in 0..1 + random.below(4) {
+                script.replay_on_any_state(random);
+            }
+            return;
+        }
+        if random.chance(50) {
+            script.replay_scenario(random);
+        }
+        while script.replays() < 8 {
+            script.begin_anew(random);
+            let records = 1 + random.below(6);
+            script.replay_capture(random, records);
+        }
+        script.after_the_end(random);
+    })
 }

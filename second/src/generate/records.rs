@@ -24,7 +24,7 @@ pub fn write(slot: u8, word: usize, enables: u8, data: u32) -> Vec<u8> {
 }
 
 /// Moments that matter: ready times, FLR ends, the clock's last moment.
-fn moments(bench: &Bench) -> Vec<u64> {
+pub fn moments(bench: &Bench) -> Vec<u64> {
     let mut moments = vec![LAST_MOMENT.0];
     for status in &bench.state.statuses {
         if let Status::Pending { cause, ready } = status {

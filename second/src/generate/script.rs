@@ -12,12 +12,12 @@ use crate::stream::Operation;
 use crate::times::Nanos;
 
 pub struct Script<'a> {
-    bench: Bench<'a>,
-    operations: Vec<Operation>,
+    pub(super) bench: Bench<'a>,
+    pub(super) operations: Vec<Operation>,
 }
 
 /// Cases with large images get fewer operations.
-fn most_pieces(setup: &Setup) -> usize {
+pub(super) fn most_pieces(setup: &Setup) -> usize {
     match setup.live_words + setup.cells {
         0..=300 => 10,
         301..=1000 => 5,
@@ -38,7 +38,7 @@ impl<'a> Script<'a> {
         self.operations
     }
 
-    fn push(&mut self, operation: Operation) -> Gave {
+    pub(super) fn push(&mut self, operation: Operation) -> Gave {
         let gave = run_operation(&mut self.bench, &operation, &mut Vec::new());
         self.operations.push(operation);
         gave
@@ -76,7 +76,14 @@ impl<'a> Script<'a> {
         let setup = self.setup();
         let words = |random: &mut Random, count| (0..count).map(|_| random.u32()).collect();
         let state = State {
-            port: Port { clock: Nanos(random.u64()), link: random.chance(50), ..Port::zero() },
+            port: Port {
+                clock: Nanos(random.u64()),
+                link: random.chance(50),
+                start: random.below(3) as u16,
+                depth: random.below(3) as u16,
+                carried_count: random.pick(&[0, 0, 0, 1, 17]),
+                ..Port::zero()
+            },
             statuses: vec![random.pick(&[Status::Down, Status::Ready]); setup.statuses],
             live: words(random, setup.live_words),
             cells: words(random, setup.cells),

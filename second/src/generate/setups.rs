@@ -104,6 +104,34 @@ pub fn good(random: &mut Random) -> Setup {
     }
 }
 
+/// A set-up that nothing refuses, with a small image.
+pub fn small(random: &mut Random) -> Setup {
+    let slots = random.pick(&[1, 1, 1, 1, 1, 2, 2, 3]);
+    Setup {
+        slots: slots as u8,
+        statuses: slots,
+        live_words: slots * WORDS_PER_SLOT,
+        cells: 1 + random.below(6),
+        bus: random.u8(),
+        port_id: random.u16(),
+        conventional: false,
+        entries: entries(random, slots),
+        defaults: defaults(random, slots),
+    }
+}
+
+/// A set-up with a small image and one thing wrong.
+pub fn small_and_bad(random: &mut Random) -> Setup {
+    let mut setup = small(random);
+    match random.below(4) {
+        0 => setup.statuses -= 1,
+        1 => setup.cells = 0,
+        2 => spoil_codes(&mut setup, random),
+        _ => spoil_defaults(&mut setup, random),
+    }
+    setup
+}
+
 /// A length next to the right one.
 fn near(random: &mut Random, right: usize, most: usize) -> usize {
     let next = match random.below(6) {

@@ -17,7 +17,7 @@ fn clock(random: &mut Random) -> Nanos {
         1 => random.below(1000) as u64,
         2 => last,
         3 => last - 1 - random.below(20) as u64,
-        4 => last - random.below(5_000_000_000) as u64,
+        4 => last - random.below(9_000_000_000) as u64,
         5 => random.u64() % 1_000_000_000_000,
         _ => random.u64() % (last + 1),
     })

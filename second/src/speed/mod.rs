@@ -1,5 +1,6 @@
-//! The benchmark: traces on which the proved library and plain Rust are compared, timed and counted.
+//! The benchmark: traces, and a capture, on which the proved library and plain Rust are compared, timed and counted.
 
+mod captures;
 mod cards;
 mod clock;
 mod comparing;

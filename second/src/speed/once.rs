@@ -5,34 +5,49 @@ use std::path::{Path, PathBuf};
 use std::process::Command;
 
 use crate::fast::whole;
+use crate::speed::captures::{Captured, CAPTURED};
 use crate::speed::library::{library, Runner};
 use crate::speed::rows::Buffers;
 use crate::speed::traces::{trace, Subject, SUBJECTS};
 
 pub const SIDES: [&str; 2] = ["proved", "rust"];
+/// The proved library's replay, for which the trace is a capture.
+pub const REPLAY: &str = "replay";
 
 pub fn text(error: std::io::Error) -> String {
     error.to_string()
 }
 
 fn side(name: &str) -> Result<Runner, String> {
+    let linked = library().ok_or("built without the library".to_string());
     match name {
-        "proved" => library().ok_or("built without the library".to_string()),
+        "proved" => linked.map(|library| library.run),
+        REPLAY => linked.map(|library| library.replay),
         "rust" => Ok(whole::run),
         _ => Err(format!("no side is named {name}")),
     }
 }
 
-/// Writes a trace and its card to files.
+/// The card and the trace, or the capture, with this name.
+fn named(name: &str, records: usize) -> Result<(String, Vec<u8>), String> {
+    if name == CAPTURED {
+        let made = Captured::new(records, 1);
+        return Ok((made.card, made.capture));
+    }
+    let found = SUBJECTS.iter().find(|(_, one)| *one == name);
+    let (subject, _) = found.ok_or(format!("no trace is named {name}"))?;
+    let made = trace(*subject, records);
+    Ok((made.card, made.bytes))
+}
+
+/// Writes a trace, or a capture, and its card to files.
 pub fn write_trace(words: &[String], records: usize) -> Result<bool, String> {
     let [name, card, bytes] = words else {
         return Err("trace wants: NAME CARD TRACE".to_string());
     };
-    let found = SUBJECTS.iter().find(|(_, one)| one == name);
-    let (subject, _) = found.ok_or(format!("no trace is named {name}"))?;
-    let made = trace(*subject, records);
-    fs::write(card, &made.card).map_err(text)?;
-    fs::write(bytes, &made.bytes).map_err(text)?;
+    let (made_card, made_bytes) = named(name, records)?;
+    fs::write(card, made_card).map_err(text)?;
+    fs::write(bytes, made_bytes).map_err(text)?;
     Ok(true)
 }
 
@@ -46,7 +61,7 @@ fn peak() -> Option<u64> {
 /// Runs one side once; prints its number, the KB of trace and answers, and the KB of peak memory.
 pub fn count(words: &[String]) -> Result<bool, String> {
     let [name, card, trace, piece] = words else {
-        return Err("count wants: proved|rust CARD TRACE PIECE".to_string());
+        return Err("count wants: proved|rust|replay CARD TRACE PIECE".to_string());
     };
     let runner = side(name)?;
     let (card, trace) = (fs::read(card).map_err(text)?, fs::read(trace).map_err(text)?);
@@ -80,8 +95,12 @@ impl Folder {
 
     pub fn put(&self, subject: Subject, records: usize, name: &str) -> Result<(), String> {
         let made = trace(subject, records);
-        fs::write(self.file("card"), &made.card).map_err(text)?;
-        fs::write(self.file(name), &made.bytes).map_err(text)
+        self.put_bytes(&made.card, &made.bytes, name)
+    }
+
+    pub fn put_bytes(&self, card: &str, bytes: &[u8], name: &str) -> Result<(), String> {
+        fs::write(self.file("card"), card).map_err(text)?;
+        fs::write(self.file(name), bytes).map_err(text)
     }
 
     /// This program, about to run `count` on a trace of this folder; `under` stands before it.

@@ -1,7 +1,8 @@
 //! The rows of the benchmark's tables, and one run of a row.
 
 use crate::fast::whole;
-use crate::speed::library::{library, Runner};
+use crate::speed::captures;
+use crate::speed::library::{library, Library, Runner};
 use crate::speed::traces::{Subject, Trace, SUBJECTS};
 
 /// A subject, and the size of the pieces that its trace is fed in.
@@ -42,10 +43,18 @@ pub struct Sides {
     pub rust: Runner,
 }
 
+fn linked() -> Result<Library, String> {
+    library().ok_or("built without the library: build with --features library".to_string())
+}
+
 /// The proved library and plain Rust, if the library is linked.
 pub fn sides() -> Result<Sides, String> {
-    let ours = library().ok_or("built without the library: build with --features library")?;
-    Ok(Sides { ours, rust: whole::run })
+    Ok(Sides { ours: linked()?.run, rust: whole::run })
+}
+
+/// The same for the replay of a capture.
+pub fn replays() -> Result<Sides, String> {
+    Ok(Sides { ours: linked()?.replay, rust: captures::run })
 }
 
 /// Bytes that a run fills, with room for every image.

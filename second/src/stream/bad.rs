@@ -28,10 +28,13 @@ pub enum Bad {
     MessageRoom,
     MessageLength,
     SheetLength,
+    ReplayRoom,
+    ReplayInput,
+    Begun,
     Cut,
 }
 
-pub const WAYS: [(Bad, &str); 27] = [
+pub const WAYS: [(Bad, &str); 30] = [
     (Bad::NoVersion, "no version at all"),
     (Bad::Version, "another version"),
     (Bad::Statuses, "more than 32 statuses"),
@@ -58,5 +61,8 @@ pub const WAYS: [(Bad, &str); 27] = [
     (Bad::MessageRoom, "more room than 40 bytes for a message"),
     (Bad::MessageLength, "a message of more than 40 bytes"),
     (Bad::SheetLength, "a sheet of more than 4,096 bytes"),
+    (Bad::ReplayRoom, "more room than 4,096 bytes for a replay"),
+    (Bad::ReplayInput, "a capture of more than 4,096 bytes"),
+    (Bad::Begun, "a begun byte above 1"),
     (Bad::Cut, "a cut stream"),
 ];

@@ -7,8 +7,9 @@ mod write;
 
 pub use bad::{Bad, WAYS};
 pub use read::{Source, Trouble};
-pub use write::{put_case, put_image, put_image_with, put_taken};
+pub use write::{put_case, put_image, put_image_with, put_replay, put_taken};
 
+use crate::replay::Replay;
 use crate::setup::{Setup, MOST_SLOTS};
 use crate::state::State;
 
@@ -26,6 +27,8 @@ pub const ENTRY_BYTES: usize = 13;
 /// Bytes of the port and of a status in a state image.
 pub const PORT_BYTES: usize = 46;
 pub const STATUS_BYTES: usize = 27;
+/// Bytes of a replay image.
+pub const REPLAY_BYTES: usize = 12;
 
 #[derive(Clone, PartialEq, Eq, Debug)]
 pub enum Operation {
@@ -47,6 +50,15 @@ pub enum Operation {
     },
     ReadMessage(Vec<u8>),
     Sheet(Vec<u8>),
+    Replay {
+        room: u16,
+        input: Vec<u8>,
+    },
+    /// Noise as in the lending of a state.
+    LendReplay {
+        replay: Replay,
+        noise: u64,
+    },
 }
 
 #[derive(Clone, PartialEq, Eq, Debug)]

@@ -18,6 +18,16 @@ impl Noise {
         self.random.as_mut().map_or(0, |random| random.below(4) as u8)
     }
 
+    /// A byte past the count of stamp bytes.
+    pub fn byte(&mut self) -> u8 {
+        self.random.as_mut().map_or(0, Random::u8)
+    }
+
+    /// An earlier stamp without begun.
+    pub fn stamp(&mut self) -> u32 {
+        self.random.as_mut().map_or(0, Random::u32)
+    }
+
     /// A time that a status has no use for.
     pub fn time(&mut self) -> u64 {
         let Some(random) = &mut self.random else {

@@ -7,6 +7,7 @@ use super::{
 };
 use crate::faults::Fault;
 use crate::landed::{Landed, LANDED, NO_PARENT};
+use crate::replay::{Replay, Stamp, STAMP_BYTES};
 use crate::setup::{Setup, SlotEntry, MOST_SLOTS};
 use crate::state::{Cause, Port, State, Status, MOST_CARRIED};
 use crate::times::{Code, Nanos};
@@ -80,6 +81,12 @@ impl<R: Read> Source<R> {
         let mut bytes = [0; 2];
         self.fill(&mut bytes)?;
         Ok(u16::from_le_bytes(bytes))
+    }
+
+    fn u32(&mut self) -> Read1<u32> {
+        let mut bytes = [0; 4];
+        self.fill(&mut bytes)?;
+        Ok(u32::from_le_bytes(bytes))
     }
 
     fn u64(&mut self) -> Read1<u64> {
@@ -183,6 +190,8 @@ impl<R: Read> Source<R> {
             0x02 => self.feed()?,
             0x03 => Operation::Lend { state: Box::new(self.image(setup)?), noise: 0 },
             0x04 => self.sheet()?,
+            0x06 => self.capture()?,
+            0x07 => Operation::LendReplay { replay: self.replay()?, noise: 0 },
             0x0D => self.message_to_write()?,
             0x0E => self.message_to_read()?,
             _ => return Err(Trouble::BadCase(Bad::NotLanded)),
@@ -199,6 +208,46 @@ impl<R: Read> Source<R> {
         let refused = usize::from(self.fault == Fault::SheetOf4096Refused);
         let length = self.length(MOST_BYTES - refused, Bad::SheetLength)?;
         Ok(Operation::Sheet(self.bytes(length)?))
+    }
+
+    fn capture(&mut self) -> Read1<Operation> {
+        let less = |fault| usize::from(self.fault == fault);
+        let most_room = MOST_BYTES - less(Fault::ReplayRoomOf4096Refused);
+        let most_input = MOST_BYTES - less(Fault::ReplayInputOf4096Refused);
+        let room = self.length(most_room, Bad::ReplayRoom)? as u16;
+        let length = self.length(most_input, Bad::ReplayInput)?;
+        Ok(Operation::Replay { room, input: self.bytes(length)? })
+    }
+
+    /// What a replay state has no use for is ignored: an earlier stamp without begun, stamp bytes past the count.
+    fn replay(&mut self) -> Read1<Replay> {
+        let begun = self.yes_no(Bad::Begun)?;
+        let earlier = self.u32()?;
+        let taken = self.u8()?;
+        let mut bytes = [0; STAMP_BYTES];
+        self.fill(&mut bytes)?;
+        let (answered, ended) = (self.u8()?, self.u8()?);
+        let past = &mut bytes[usize::from(taken).min(STAMP_BYTES)..];
+        let begun = begun || self.fault == Fault::ReplayUnbegunStampTaken && earlier != 0;
+        ensure(!self.refuses_replay(begun, earlier, past, [taken, answered, ended]), Bad::Begun)?;
+        if self.fault != Fault::ReplayBytesPastCountTaken {
+            past.fill(0);
+        }
+        let earlier = begun.then_some(Stamp(earlier));
+        Ok(Replay { earlier, taken, bytes, answered, ended })
+    }
+
+    /// What only a faulty reader refuses in a replay image.
+    fn refuses_replay(&self, begun: bool, earlier: u32, past: &[u8], counts: [u8; 3]) -> bool {
+        let [taken, answered, ended] = counts;
+        match self.fault {
+            Fault::ReplayUnbegunStampRefused => !begun && earlier != 0,
+            Fault::ReplayBytesPastCountRefused => past.iter().any(|byte| *byte != 0),
+            Fault::ReplayTakenRefused => taken > 4,
+            Fault::ReplayAnsweredRefused => answered > 2,
+            Fault::ReplayEndedRefused => ![0, 32, 33].contains(&ended),
+            _ => false,
+        }
     }
 
     fn message_to_write(&mut self) -> Read1<Operation> {

@@ -3,6 +3,7 @@
 use super::noise::Noise;
 use super::{Case, Operation};
 use crate::landed::NO_PARENT;
+use crate::replay::Replay;
 use crate::setup::{Setup, SlotEntry};
 use crate::sheets::Taken;
 use crate::state::{Cause, Port, State, Status, MOST_CARRIED};
@@ -47,12 +48,7 @@ fn put_setup(setup: &Setup, out: &mut Vec<u8>) {
 fn put_operation(operation: &Operation, out: &mut Vec<u8>) {
     match operation {
         Operation::SetUp => out.push(0x01),
-        Operation::Feed { room, input } => {
-            out.push(0x02);
-            out.extend(room.to_le_bytes());
-            out.extend((input.len() as u16).to_le_bytes());
-            out.extend(input);
-        }
+        Operation::Feed { room, input } => put_call(0x02, *room, input, out),
         Operation::Lend { state, noise } => {
             out.push(0x03);
             put_whole_image(state, &state.port.carried, &mut Noise::new(*noise), out);
@@ -66,12 +62,43 @@ fn put_operation(operation: &Operation, out: &mut Vec<u8>) {
             out.extend([0x0E, bytes.len() as u8]);
             out.extend(bytes);
         }
+        Operation::Replay { room, input } => put_call(0x06, *room, input, out),
+        Operation::LendReplay { replay, noise } => {
+            out.push(0x07);
+            put_replay_with(replay, &mut Noise::new(*noise), out);
+        }
         Operation::Sheet(text) => {
             out.push(0x04);
             out.extend((text.len() as u16).to_le_bytes());
             out.extend(text);
         }
     }
+}
+
+/// Writes a feed or a replay.
+fn put_call(operation: u8, room: u16, input: &[u8], out: &mut Vec<u8>) {
+    out.push(operation);
+    out.extend(room.to_le_bytes());
+    out.extend((input.len() as u16).to_le_bytes());
+    out.extend(input);
+}
+
+/// Writes a replay image.
+pub fn put_replay(replay: &Replay, out: &mut Vec<u8>) {
+    put_replay_with(replay, &mut Noise::new(0), out);
+}
+
+/// A replay state holds 0 past its count of stamp bytes.
+fn put_replay_with(replay: &Replay, noise: &mut Noise, out: &mut Vec<u8>) {
+    out.push(u8::from(replay.earlier.is_some()));
+    let earlier = replay.earlier.map_or_else(|| noise.stamp(), |stamp| stamp.0);
+    out.extend(earlier.to_le_bytes());
+    out.push(replay.taken);
+    for (place, byte) in replay.bytes.iter().enumerate() {
+        let there = place < usize::from(replay.taken);
+        out.push(if there { *byte } else { *byte | noise.byte() });
+    }
+    out.extend([replay.answered, replay.ended]);
 }
 
 /// Writes what came of a sheet: number, line, and the four codes of each entry.

@@ -4,7 +4,7 @@ use Prim.Native.Nat.{ℕ}
 use mathlib.Core.Path.{_≡_, sym, ap, _∙_}
 use denote.Ref.{now}
 use borrow.Author.Needs.{needs}
-use Rattle.demand3.specs.Held.{Held, held, lentOf}
+use Rattle.demand3.specs.Held.{Held}
 use Rattle.demand3.specs.SettingUp.{Prepared, setsUp}
 use Rattle.set_up.specs.Prepared.{prepared}
 use Rattle.demand3.proofs.Numbers.{set-up-facts}
@@ -14,31 +14,22 @@ use Rattle.trace_in_pieces.proofs.Pieces.{stop, set-up-ran}
 use Rattle.run_in_pieces.proofs.run_over.Statement.{statement}
 use Rattle.run_in_pieces.proofs.run_over.Tie as tie
 
-abbrev entry : tie.After-set-up → tie.Start
-entry c = c .before .before .before .before .before .before .before .before .before .before
+abbrev entry : tie.After-set-up-blank → tie.Start
+entry c = c .before .before .before .before .before .before .before .before
 
 -- what the set-up is lent
-abbrev lent : tie.After-set-up → Held
+abbrev lent : tie.After-set-up-blank → Held
 lent c = let a = entry c .args in blankHeld (a .setup) (now (a .live)) (now (a .cells))
 
 -- what it leaves
-abbrev leaves : tie.After-set-up → Prepared
-leaves c = prepared (entry c .args .setup .slots) (c .set-up .result) (c .set-up .last .1 .1 .1 .1 .0) (c .set-up .last .1 .1 .1 .1 .1 .1 .0)
+abbrev leaves : tie.After-set-up-blank → Prepared
+leaves c = prepared (entry c .args .setup .slots) (c .set-up-blank .result) (c .set-up-blank .last .1 .0) (c .set-up-blank .last .1 .1 .1 .0)
 
-made : (c : tie.After-set-up) → leaves c ≡ setsUp (entry c .args .setup) (now (entry c .args .defaults)) (lent c)
-made c =
-    let a = entry c .args in
-    c .set-up .ensures
-    ∙ λ i. setsUp (a .setup) (now (a .defaults)) (held (c .before .before .before .before .blank-port .ensures i) (lentOf (a .setup .slots) (c .before .before .before .all-down .ensures i)) (now (a .live)) (now (a .cells)))
+made : (c : tie.After-set-up-blank) → leaves c ≡ setsUp (entry c .args .setup) (now (entry c .args .defaults)) (lent c)
+made c = c .set-up-blank .ensures
 
-blank-port-requires : tie.Need-blank-port-requires
-blank-port-requires c κs = search needs
-
-all-down-requires : tie.Need-all-down-requires
-all-down-requires c κs = search needs
-
-set-up-requires : tie.Need-set-up-requires
-set-up-requires c κs = search needs
+set-up-blank-requires : tie.Need-set-up-blank-requires
+set-up-blank-requires c κs = search needs
 
 all-fed-requires : tie.Need-all-fed-requires
 all-fed-requires c κs = search needs
@@ -54,7 +45,7 @@ returns c =
     let s = c .before .before .before .before .before .before .before .before .before in
     let a = entry s .args in
     rw (c .all-fed .ensures)
-    (sym (stop (a .setup) (now (a .defaults)) (a .size) (s .set-up .result .number) (leaves s .held) (now (a .trace)) (now (a .answers)) (λ q. absurd (c .before .if1 .taken q)))
+    (sym (stop (a .setup) (now (a .defaults)) (a .size) (s .set-up-blank .result .number) (leaves s .held) (now (a .trace)) (now (a .answers)) (λ q. absurd (c .before .if1 .taken q)))
     ∙ set-up-ran (a .setup) (now (a .defaults)) (a .size) (lent s) (leaves s) (now (a .trace)) (now (a .answers)) (made s))
 
 feed-pieces-requires : tie.Need-feed-pieces-requires
@@ -84,9 +75,7 @@ pub run-over-spec : {M : Type 1} → statement M
 run-over-spec =
     tie.close
     (tie.spec
-    blank-port-requires
-    all-down-requires
-    set-up-requires
+    set-up-blank-requires
     all-fed-requires
     same-length
     same-length-2

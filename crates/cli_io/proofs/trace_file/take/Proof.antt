@@ -1,11 +1,11 @@
--- `cli_io::trace_file::take` is safe and ends: it counts to the end of the piece.
+-- `cli_io::trace_file::take` meets its contract, and ends: it counts to the end of the piece.
 use borrow.Author.Needs.{needs}
-use Prim.Native.Nat.{_-_}
+use Prim.Native.Nat.{_-_, _≤_}
 use Rattle.cli_io.proofs.trace_file.take.Statement.{statement}
 use Rattle.cli_io.proofs.trace_file.take.Tie as tie
 
 abbrev Inv-loop : tie.InvT-loop
-Inv-loop buffer from to held₀ i₀ held i = Unit {0}
+Inv-loop buffer from to held₀ i₀ held i = from ≤ i
 
 abbrev μ-loop : tie.MeasureT-loop
 μ-loop buffer from to held₀ i₀ held i = to - i

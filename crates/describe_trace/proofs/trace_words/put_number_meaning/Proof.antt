@@ -54,6 +54,18 @@ slice-aggregate-put-text-8 c = search needs
 put-text-requires-8 : tie.Need-put-text-requires-8
 put-text-requires-8 c κs = search needs
 
+slice-aggregate-put-text-9 : tie.Need-slice-aggregate-put-text-9
+slice-aggregate-put-text-9 c = search needs
+
+put-text-requires-9 : tie.Need-put-text-requires-9
+put-text-requires-9 c κs = search needs
+
+slice-aggregate-put-text-10 : tie.Need-slice-aggregate-put-text-10
+slice-aggregate-put-text-10 c = search needs
+
+put-text-requires-10 : tie.Need-put-text-requires-10
+put-text-requires-10 c κs = search needs
+
 same-length : tie.Need-same-length
 same-length c = search needs
 
@@ -110,9 +122,23 @@ returns-8 : tie.Need-returns-8
 unfolding numberMeaning
 returns-8 c = simp (c .before .before .before .before .before .match .keys8) (c .before .before .put-text8 .ensures)
 
+same-length-9 : tie.Need-same-length-9
+same-length-9 c = search needs
+
 returns-9 : tie.Need-returns-9
 unfolding numberMeaning
-returns-9 c = simp (ne-eqb _ 0 (c .match .rest .0 .0 .0 .0 .0 .0 .0 .1), ne-eqb _ 1 (c .match .rest .0 .0 .0 .0 .0 .0 .1), ne-eqb _ 2 (c .match .rest .0 .0 .0 .0 .0 .1), ne-eqb _ 3 (c .match .rest .0 .0 .0 .0 .1), ne-eqb _ 4 (c .match .rest .0 .0 .0 .1), ne-eqb _ 5 (c .match .rest .0 .0 .1), ne-eqb _ 30 (c .match .rest .0 .1), ne-eqb _ 31 (c .match .rest .1)) (nothing)
+returns-9 c = simp (c .before .before .before .before .before .match .keys9) (c .before .before .put-text9 .ensures)
+
+same-length-10 : tie.Need-same-length-10
+same-length-10 c = search needs
+
+returns-10 : tie.Need-returns-10
+unfolding numberMeaning
+returns-10 c = simp (c .before .before .before .before .before .match .keys10) (c .before .before .put-text10 .ensures)
+
+returns-11 : tie.Need-returns-11
+unfolding numberMeaning
+returns-11 c = simp (ne-eqb _ 0 (c .match .rest .0 .0 .0 .0 .0 .0 .0 .0 .0 .1), ne-eqb _ 1 (c .match .rest .0 .0 .0 .0 .0 .0 .0 .0 .1), ne-eqb _ 2 (c .match .rest .0 .0 .0 .0 .0 .0 .0 .1), ne-eqb _ 3 (c .match .rest .0 .0 .0 .0 .0 .0 .1), ne-eqb _ 4 (c .match .rest .0 .0 .0 .0 .0 .1), ne-eqb _ 5 (c .match .rest .0 .0 .0 .0 .1), ne-eqb _ 30 (c .match .rest .0 .0 .0 .1), ne-eqb _ 31 (c .match .rest .0 .0 .1), ne-eqb _ 32 (c .match .rest .0 .1), ne-eqb _ 33 (c .match .rest .1)) (nothing)
 
 pub put-number-meaning-spec : {M : Type 1} → statement M
 put-number-meaning-spec =
@@ -134,6 +160,10 @@ put-number-meaning-spec =
     put-text-requires-7
     slice-aggregate-put-text-8
     put-text-requires-8
+    slice-aggregate-put-text-9
+    put-text-requires-9
+    slice-aggregate-put-text-10
+    put-text-requires-10
     same-length
     returns
     same-length-2
@@ -150,4 +180,8 @@ put-number-meaning-spec =
     returns-7
     same-length-8
     returns-8
-    returns-9)
+    same-length-9
+    returns-9
+    same-length-10
+    returns-10
+    returns-11)

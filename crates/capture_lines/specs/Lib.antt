@@ -1,0 +1,3 @@
+pub mod Stamps
+pub mod Captures
+pub mod Faults

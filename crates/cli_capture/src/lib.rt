@@ -1,0 +1,3 @@
+// Capture files for the command.
+pub mod entries; // a capture, taken entry by entry
+pub mod complaint; // what is wrong with one

@@ -35,6 +35,7 @@ use Rattle.capture.proofs.Steps.{later-zero, later-later}
 use Rattle.capture.proofs.Wholes.{joined-append, wholes-append, joined-advances, wholes-advances, bytes-advances, runs-append, entry-runs}
 use Rattle.replay_state.specs.declared.Due.{Due}
 use Rattle.replay_state.specs.inner.Moves.{dueOf}
+use Rattle.replay_state.proofs.Dues.{count-is}
 use Rattle.replay.specs.declared.Entry.{Entry}
 use Rattle.replay.specs.inner.Calls.{Between}
 use Rattle.replay.specs.inner.Stretches.{advancesIn, StandsNext, openIn, WrittenOut, standsAfterEntry}
@@ -120,13 +121,7 @@ module _ {before : Stamp} {input : List ℕ} {at left room : ℕ} {e : Entry} (n
   held = ap advancesIn (n .due) ∙ advances-held ts few
 
   pub count : e .due .count ≡ length ts
-  count = ap (λ (d : Due). d .count) (n .due) ∙ counted ts few
-    where
-      counted : (xs : List Nanos) → length xs ≤ 2 → dueOf xs .count ≡ length xs
-      counted [] h = refl
-      counted (t ∷ []) h = refl
-      counted (t ∷ u ∷ []) h = refl
-      counted (t ∷ u ∷ v ∷ more) h = absurd (omega arith)
+  count = ap (λ (d : Due). d .count) (n .due) ∙ count-is ts few
 
   got : Got l (e .size)
   got =

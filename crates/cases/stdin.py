@@ -8,7 +8,7 @@
 The cases: the first four of 00-base, whose output is the front of what 00-base wants; then those that are written here: marked
 cases 1 to 10 of 01; every status for every kind that can give it; refusals 1 to 5, each clause of 5 alone; 30 and 31; FRS in order
 of ready time, dropped, and with interrupts; messages written and read; time sheets; replays, with each of 30 to 33 at each place, cuts, and
-each clause of the match alone. `stdout` is what the independent implementation writes.
+each clause of the match alone; the moments that replays keep, differences and totals. `stdout` is what the independent implementation writes.
 """
 import struct
 import sys
@@ -80,9 +80,10 @@ class Case:
         self.operations.append((b'\3' + image(**port) + b''.join(statuses) + words + ring, 'lend'))
         return self
 
-    def replay(self, entries, want, number=0, room=None, consumed=None, left=None, clock=None):
+    def replay(self, entries, want, number=0, room=None, consumed=None, left=None, clock=None, made=None):
         """`want`: for each advance and each record completed its status, or its 8 bytes; `left`: the replay image, by default that after
-        the last entry, or the one before where the call is refused; `clock`: at the end, where that is looked at."""
+        the last entry, or the one before where the call is refused; `clock`, and `made`, the kept moment of each slot that has one: at the
+        end, where that is looked at."""
         capture = b''.join(entries)
         room = 8 * len(want) if room is None else room
         refused = number in (1, 2, 3, 4, 5)
@@ -91,13 +92,25 @@ class Case:
             left = self.image if refused else replay_image(struct.unpack('<I', entries[-1][:4])[0])
         self.image = left
         head = struct.pack('<BHH', 6, room, len(capture))
-        self.operations.append((head + capture, 'replay', number, want, room, consumed, left, clock))
+        self.operations.append((head + capture, 'replay', number, want, room, consumed, left, clock, made))
         return self
 
-    def lend_replay(self, lent, image=None):
-        """`image`: how it is written again, where that is otherwise."""
+    def lend_replay(self, lent, image=None, made=None):
+        """`image`: how it is written again, where that is otherwise; `made`: the kept moments, or their bytes."""
         self.image = lent if image is None else image
-        self.operations.append((b'\7' + lent, 'lend replay'))
+        self.operations.append((b'\7' + lent + (made if isinstance(made, bytes) else moments(made or {})), 'lend replay'))
+        return self
+
+    def lateness(self, seen, want):
+        """`seen`: the seen time of each slot that has one; `want`: for each slot with a difference the difference, or 34."""
+        got = {slot: (34, 0) if d == 34 else (1, d) for slot, d in want.items()}
+        want = b''.join(struct.pack('<Bq', *got.get(slot, (0, 0))) for slot in range(32))
+        self.operations.append((b'\x08' + moments(seen), 'message', want))
+        return self
+
+    def totals(self, differences, early=0, on_time=0, late=0, least=0, greatest=0, total=0, number=0):
+        body = struct.pack('<BH%dq' % len(differences), 9, len(differences), *differences)
+        self.operations.append((body, 'message', struct.pack('<BIIIqqq', number, early, on_time, late, least, greatest, total)))
         return self
 
     def writes(self, kind, number, reason, want, room=16):
@@ -150,6 +163,11 @@ def replay_image(earlier=None, stamp=b'', answered=0, ended=0, count=None):
     stamp = struct.pack('<I', stamp) if isinstance(stamp, int) else stamp
     count = len(stamp) if count is None else count
     return struct.pack('<BIB4sBB', earlier is not None, earlier or 0, count, stamp, answered, ended)
+
+
+def moments(made):
+    """Of each of 32 slots whether it has one, and when."""
+    return b''.join(struct.pack('<BQ', slot in made, made.get(slot, 0)) for slot in range(32))
 
 
 def stamped(stamp, record):
@@ -554,6 +572,31 @@ matched.lend_replay(struct.pack('<BIB4sBB', 1, 1000, 1, b'\xEA\3\1\1', 0, 0), re
     [], [], left=replay_image(1000, b'\xEA')).replay([b'\3\0\0', BITS], [0, 0], left=replay_image(1002))
 matched.lend_replay(struct.pack('<BIB4sBB', 0, 1000, 2, b'\5\0\1\1', 9, 9), replay_image(None, b'\5\0', 9, 9)).replay([BITS], [], 5, room=8)
 
+# The moments at which a replay makes slots Ready (Q-7): its own ready time, also within an advance; a wait of 0 at the record's clock; the last one is
+# kept. Feed, set-up and a refused call keep none; nothing clears them.
+FLR = 0x8000
+times = [entry(dl_up=0x00A, flr=0x005, d3hot=0), entry(dl_up=0, flr=0, d3hot=0), entry(dl_up=0x014)]
+late = Case(slots=3, entries=times, defaults=[(64 * slot + 0x1D, 1 << 28) for slot in range(3)]).set_up()
+late.replay([stamped(5, UP)], [0], made={1: 0})
+late.replay([stamped(55, BITS)], [0, 0], clock=200, made={0: 10, 1: 0, 2: 20})
+late.replay([stamped(55, write(0x78, FLR, slot=1)), stamped(56, write(0x78, FLR))], [0, 0, 0], clock=204, made={0: 10, 1: 200, 2: 20})
+late.replay([stamped(57, BITS), stamped(58, BITS)], [0, 0, 0, 0], clock=212, made={0: 209, 1: 200, 2: 20})
+late.replay([stamped(58, DOWN_LINK), stamped(58, UP)], [0, 0], clock=212, made={0: 209, 1: 212, 2: 20})
+late.feed([advance(100)], [0]).replay([stamped(58, BITS)], [0], clock=312, made={0: 209, 1: 212, 2: 20})
+late.lateness({0: 210, 1: 212, 2: 19, 3: 5}, {0: 1, 1: 0, 2: -1}).lateness({}, {}).lateness({2: 20 + 10 ** 15, 0: 210 + 10 ** 15}, {2: 10 ** 15, 0: 34})
+late.set_up().replay([stamped(58, BITS)], [0], clock=0, made={0: 209, 1: 212, 2: 20})
+late.lend_replay(replay_image(), made={0: 10 ** 15 + 1, 1: 2 ** 64 - 1, 31: 7}).replay([stamped(1, UP)], [0], left=replay_image(1), made={0: 10 ** 15 + 1, 1: 0, 31: 7})
+late.lateness({0: 1, 1: 2 ** 64 - 1, 31: 7}, {0: -10 ** 15, 1: 34}).lend_replay(replay_image(9, 8, ended=31), made={0: 3}).replay([BITS], [], 5, room=8, made={0: 3})
+late.lend_replay(replay_image(), made=moments({})[:1] + b'\xFF' * 8 + moments({})[9:]).replay([stamped(1, BITS)], [0], left=replay_image(1), made={})
+Case(slots=0).lend_replay(replay_image(), made={0: 3}).lateness({0: 3}, {})
+
+# Totals: with none all 0; 34, else 35 for more than 9,000, and then all 0; the sum is exact.
+MOST = 10 ** 15
+Case().totals([]).totals([-5, 0, 7, -1], 2, 1, 1, -5, 7, 1).totals([0], 0, 1).totals([3], late=1, least=3, greatest=3, total=3).totals([-3], 1, 0, 0, -3, -3, -3)
+Case().totals([MOST, -MOST], 1, 0, 1, -MOST, MOST).totals([0, MOST + 1], number=34).totals([-MOST - 1], number=34).totals([-2 ** 63], number=34)
+Case().totals([MOST] * 9000, late=9000, least=MOST, greatest=MOST, total=9 * 10 ** 18).totals([-MOST] * 9000, 9000, 0, 0, -MOST, -MOST, -9 * 10 ** 18)
+Case().totals([1] * 9001, number=35).totals([1] * 9001 + [MOST + 1], number=34).totals([0] * 9100, number=35)
+
 
 # ---- An output is held to what is expected
 
@@ -599,7 +642,7 @@ class Check:
 
     def replay(self, where, operation):
         number, consumed, written = struct.unpack('<BII', self.take(9))
-        _, _, want_number, want, room, want_consumed, _, _ = operation
+        _, _, want_number, want, room, want_consumed, _, _, _ = operation
         answers = self.take(room)
         if (number, consumed, written) != (want_number, want_consumed, 8 * len(want)):
             self.say(where, 'number %d, consumed %d, written %d' % (number, consumed, written))
@@ -609,10 +652,13 @@ class Check:
             self.say(where, 'a byte beyond the answers changed')
 
     def after_replay(self, where, state, operation):
-        left, clock = operation[6:]
+        left, clock, made = operation[6:]
         got = self.take(len(left))
         if got != left:
             self.say(where, 'replay image %s, not %s' % (got.hex(), left.hex()))
+        got = self.take(288)
+        if made is not None and got != moments(made):
+            self.say(where, 'moments %s, not %s' % (got.hex(), moments(made).hex()))
         if clock is not None and struct.unpack('<Q', state[:8])[0] != clock:
             self.say(where, 'another clock than %d' % clock)
 

@@ -7,8 +7,8 @@ pub struct Arguments {
 }
 
 /// Options without a value.
-const SWITCHES: [&str; 6] =
-    ["--table", "--masks", "--compare", "--lengths", "--sheets", "--captures"];
+const SWITCHES: [&str; 7] =
+    ["--table", "--masks", "--compare", "--lengths", "--sheets", "--captures", "--lateness"];
 
 impl Arguments {
     pub fn read(given: impl Iterator<Item = String>) -> Result<Arguments, String> {

@@ -4,7 +4,7 @@ use std::borrow::Cow;
 
 use crate::faults::Fault;
 use crate::registers::{Table, TABLE};
-use crate::replay::Replay;
+use crate::replay::{Made, Replay, Running};
 use crate::setup::Setup;
 use crate::sheets::{Sheet, Taken};
 use crate::state::{Port, State, Status};
@@ -21,6 +21,11 @@ pub struct Bench<'a> {
     pub fault: Fault,
     /// Bits of slots that earlier sheets named; a planted fault alone fills it.
     pub named_earlier: u32,
+    /// Whether a replay call is under way, which keeps moments.
+    pub replays: bool,
+    /// What became Ready in the call under way, and the record that is run.
+    pub made: Vec<Made>,
+    pub running: Running,
 }
 
 /// What a record answers.
@@ -66,6 +71,9 @@ impl<'a> Bench<'a> {
             table: &TABLE,
             fault,
             named_earlier: 0,
+            replays: false,
+            made: Vec::new(),
+            running: Running::NONE,
         }
     }
 
@@ -87,6 +95,7 @@ impl<'a> Bench<'a> {
         if self.has(Fault::ReplayFreshAtSetUp) {
             self.replay = Replay::FRESH;
         }
+        self.set_up_moments();
         if !self.has(Fault::SetUpKeepsCells) {
             self.state.cells.fill(0);
         }
@@ -99,6 +108,7 @@ impl<'a> Bench<'a> {
         let sheet = Sheet { text, slots: self.setup.slots, fault, named_earlier };
         let mut taken = sheet.take(&self.setup.entries);
         self.named_earlier |= sheet.names_kept(&taken);
+        self.clear_moments(Fault::MomentsClearedBySheet);
         if self.has(Fault::SheetNeedsSetUp) && self.setup.refusal(self.fault).is_some() {
             taken.entries = self.setup.entries;
         }
@@ -121,6 +131,7 @@ impl<'a> Bench<'a> {
         };
         if too_far {
             answer.status = 22;
+            self.leave_22();
             if self.has(Fault::ClockMovesToLast) {
                 self.state.port.clock = LAST_MOMENT;
             }

@@ -3,6 +3,7 @@
 use crate::bench::{Answer, Bench};
 use crate::feed::Fed;
 use crate::generate::Of;
+use crate::lateness::reached::Reached as LatenessReached;
 use crate::messages::{Kind, DRS, UNREADABLE, UNWRITABLE};
 use crate::replay::reached::Reached as ReplaysReached;
 use crate::run::{Gave, Reading, Wrote};
@@ -52,6 +53,7 @@ pub struct Coverage {
     read: Messages<{ UNREADABLE.len() }>,
     sheets: Reached,
     captures: ReplaysReached,
+    lateness: LatenessReached,
 }
 
 /// Counters of messages written, or of messages read.
@@ -123,6 +125,7 @@ impl Coverage {
             read: Messages::new(),
             sheets: Reached::new(),
             captures: ReplaysReached::new(),
+            lateness: LatenessReached::new(),
         }
     }
 
@@ -130,12 +133,14 @@ impl Coverage {
     pub fn begin_case(&mut self) {
         self.sheets.begin_case();
         self.captures.begin_case();
+        self.lateness.begin_case();
     }
 
     /// Counts what an operation gave; the bench is as the operation left it.
     pub fn note(&mut self, gave: &Gave, bench: &Bench) {
         self.sheets.note(gave);
         self.captures.note(gave, bench);
+        self.lateness.note(gave, bench);
         match gave {
             Gave::SetUp(number) => {
                 self.set_ups[usize::from(*number)] += 1;
@@ -148,7 +153,7 @@ impl Coverage {
             Gave::Replay(call) => {
                 call.replayed.fed.ran.iter().for_each(|(_, answer)| self.note_arrivals(answer));
             }
-            Gave::Sheet(_) | Gave::LentReplay { .. } => {}
+            Gave::Sheet(_) | Gave::LentReplay { .. } | Gave::Lateness(_) | Gave::Totals(_) => {}
         }
     }
 
@@ -238,6 +243,7 @@ impl Coverage {
         self.read.rows("read a message", &UNREADABLE, &mut rows);
         self.sheets.rows(&mut rows);
         self.captures.rows(&mut rows);
+        self.lateness.rows(&mut rows);
         rows
     }
 
@@ -246,6 +252,7 @@ impl Coverage {
             Of::Everything => self.rows(),
             Of::Sheets => self.sheets.rows_alone(),
             Of::Captures => self.captures.rows_alone(),
+            Of::Lateness => self.lateness.rows_alone(),
         }
     }
 
@@ -265,7 +272,7 @@ impl Coverage {
     }
 }
 
-/// Prints the table; true if every counter was reached, or every one that cases of sheets or captures alone can reach.
+/// Prints the table; true if every counter was reached, or every one that cases of sheets, of captures or of lateness alone can reach.
 pub fn report(coverage: &Coverage, of: Of) -> bool {
     print!("{}", coverage.table(of));
     let missing = coverage.missing(of);

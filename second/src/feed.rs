@@ -3,21 +3,23 @@
 use crate::bench::{Answer, Bench};
 use crate::faults::Fault;
 use crate::records::record_length;
+use crate::replay::Made;
 
 pub const ANSWER_LENGTH: usize = 8;
 
-/// What a feed gives, with the records that it ran (for coverage).
+/// What a feed gives, with the records that it ran and the slots that became Ready (for coverage).
 #[derive(Clone, PartialEq, Eq, Debug)]
 pub struct Fed {
     pub number: u8,
     pub consumed: usize,
     pub written: usize,
     pub ran: Vec<(u8, Answer)>,
+    pub made: Vec<Made>,
 }
 
 impl Fed {
     pub fn start() -> Fed {
-        Fed { number: 0, consumed: 0, written: 0, ran: Vec::new() }
+        Fed { number: 0, consumed: 0, written: 0, ran: Vec::new(), made: Vec::new() }
     }
 
     fn refused(number: u8) -> Fed {
@@ -47,6 +49,8 @@ impl Bench<'_> {
             fed.number = 31;
             return fed;
         }
+        self.begin_call(false);
+        self.clear_moments(Fault::MomentsClearedByFeed);
         for byte in input {
             if let Some(number) = self.take_byte(*byte, room, &mut fed) {
                 fed.number = number;
@@ -54,6 +58,7 @@ impl Bench<'_> {
             }
             fed.consumed += 1;
         }
+        fed.made = self.end_call();
         if self.has(Fault::RestOfRoomCleared) {
             room[fed.written..].fill(0);
         }

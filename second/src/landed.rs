@@ -14,7 +14,7 @@ pub struct Landed {
     pub explanations: bool,
     /// operations 06 and 07.
     pub replay: bool,
-    /// operations 08 and 09.
+    /// operations 08 and 09, and the moments of a replay image.
     pub lateness: bool,
     /// an entry's edition.
     pub editions: bool,
@@ -94,19 +94,19 @@ impl Landed {
 pub const NO_PARENT: u8 = 0xFF;
 
 /// What has landed.
-pub const LANDED: Landed = Landed { sheets: true, replay: true, ..Landed::NOTHING };
+pub const LANDED: Landed = Landed { sheets: true, replay: true, lateness: true, ..Landed::NOTHING };
 
 #[cfg(test)]
 mod tests {
     use super::*;
 
     #[test]
-    fn the_base_has_five_operations_and_what_has_landed_three_more() {
+    fn the_base_has_five_operations_and_what_has_landed_five_more() {
         let operations = |landed: Landed| -> Vec<u8> {
             (0..=255).filter(|kind| landed.has_operation(*kind)).collect()
         };
         assert_eq!(operations(Landed::NOTHING), [0x01, 0x02, 0x03, 0x0D, 0x0E]);
-        assert_eq!(operations(LANDED), [0x01, 0x02, 0x03, 0x04, 0x06, 0x07, 0x0D, 0x0E]);
+        assert_eq!(operations(LANDED), [1, 2, 3, 4, 6, 7, 8, 9, 0x0D, 0x0E]);
     }
 
     #[test]
@@ -129,6 +129,9 @@ mod tests {
         let with_replay = Landed { replay: true, ..Landed::NOTHING };
         assert!(with_replay.has_operation(6) && with_replay.has_operation(7));
         assert!(!with_replay.has_operation(8));
+        let with_lateness = Landed { lateness: true, ..with_replay };
+        assert!(with_lateness.has_operation(8) && with_lateness.has_operation(9));
+        assert!(!with_lateness.has_operation(0x0A));
         let with_editions = Landed { editions: true, ..Landed::NOTHING };
         assert!(with_editions.takes_edition(2) && !with_editions.takes_parent(0));
         let with_children = Landed { children: true, ..Landed::NOTHING };

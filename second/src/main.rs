@@ -12,6 +12,7 @@ mod feed;
 mod fuzz;
 mod generate;
 mod landed;
+mod lateness;
 #[cfg(test)]
 mod marked;
 mod messages;
@@ -54,10 +55,11 @@ const USAGE: &str = "usage:
   second run [--fault NAME] < stream > output
   second answers CARD TRACE [--fault NAME] > answers
   second replay CARD CAPTURE [--fault NAME] > answers
-  second write --seed S --cases N [--sheets | --captures] > stream
-  second selfcheck [--seed S] [--cases N] [--sheets | --captures]
+  second moments CARD CAPTURE [--fault NAME]
+  second write --seed S --cases N [--sheets | --captures | --lateness] > stream
+  second selfcheck [--seed S] [--cases N] [--sheets | --captures | --lateness]
   second faults [--seed S] [--cases N] [--table | --masks]
-  second compare PROGRAM [--seed S] [--cases N] [--sheets | --captures] [-- its own words]
+  second compare PROGRAM [--seed S] [--cases N] [--sheets | --captures | --lateness] [-- its own words]
   second compare PROGRAM --stream FILE --expect FILE [-- its own words]
   second fuzz PROGRAM [--seed S] [--rounds N] [-- its own words]
   second sheets OTSNEBURA [--seed S] [--cases N] [-- its own words]
@@ -90,7 +92,7 @@ fn run_command(arguments: &Arguments) -> Verdict {
     }
 }
 
-/// Writes the answers of a trace file, or of a capture file, on a card file.
+/// Writes the answers of a trace file, or of a capture file, or the moments of a capture file, on a card file.
 fn answers_command(arguments: &Arguments, answers: fn(&Setup, &[u8], Fault) -> Vec<u8>) -> Verdict {
     let fault = arguments.text("--fault").map_or(Ok(Fault::None), fault_named)?;
     let [card, trace] = arguments.words.as_slice() else {
@@ -118,11 +120,10 @@ fn write_command(arguments: &Arguments) -> Verdict {
 
 /// What the cases of a command are made of.
 fn of(arguments: &Arguments) -> Of {
-    match (arguments.has("--sheets"), arguments.has("--captures")) {
-        (true, _) => Of::Sheets,
-        (false, true) => Of::Captures,
-        (false, false) => Of::Everything,
-    }
+    let named =
+        [("--sheets", Of::Sheets), ("--captures", Of::Captures), ("--lateness", Of::Lateness)];
+    let found = named.into_iter().find(|(name, _)| arguments.has(name));
+    found.map_or(Of::Everything, |(_, of)| of)
 }
 
 fn selfcheck_command(arguments: &Arguments) -> Verdict {
@@ -202,6 +203,7 @@ fn command() -> Verdict {
         "run" => run_command(&arguments),
         "answers" => answers_command(&arguments, answers::answers),
         "replay" => answers_command(&arguments, answers::replayed),
+        "moments" => answers_command(&arguments, answers::moments),
         "write" => write_command(&arguments),
         "selfcheck" => selfcheck_command(&arguments),
         "faults" => faults_command(&arguments),

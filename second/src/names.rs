@@ -1,6 +1,9 @@
 //! Names for the bytes of an operation's output.
 
-use crate::stream::{image_length, Case, Operation, REPLAY_BYTES, STATUS_BYTES, TAKEN_BYTES};
+use crate::stream::{
+    image_length, Case, Operation, MOMENT_BYTES, REPLAY_BYTES, REPORT_BYTES, STATUS_BYTES,
+    TAKEN_BYTES, TOTALS_BYTES,
+};
 
 pub const PORT_FIELDS: [(&str, usize); 15] = [
     ("clock", 8),
@@ -34,6 +37,20 @@ pub const REPLAY_FIELDS: [(&str, usize); 6] = [
     ("stamp bytes", 4),
     ("advances answered", 1),
     ("ended", 1),
+];
+/// Of each slot, after those of a replay image.
+pub const MOMENT_FIELDS: [(&str, usize); 2] = [("made Ready", 1), ("moment", 8)];
+pub const SEEN_FIELDS: [(&str, usize); 2] = [("seen", 1), ("when", 8)];
+const DIFFERENCE_FIELDS: [(&str, usize); 2] =
+    [("whether there is a difference", 1), ("difference", 8)];
+const TOTALS_FIELDS: [(&str, usize); 7] = [
+    ("number", 1),
+    ("early", 4),
+    ("on time", 4),
+    ("late", 4),
+    ("least", 8),
+    ("greatest", 8),
+    ("sum", 8),
 ];
 const READING_FIELDS: [(&str, usize); 4] = [("number", 1), ("kind", 1), ("ID", 2), ("reason", 1)];
 const ANSWER_FIELDS: [&str; 8] = [
@@ -102,8 +119,17 @@ fn replay_field(case: &Case, room: usize, offset: usize) -> String {
     let image = 9 + room + image_length(&case.setup);
     match offset.checked_sub(image) {
         None => feed_field(case, room, offset),
-        Some(left) => format!("replay: {}", among(&REPLAY_FIELDS, left).unwrap_or("?")),
+        Some(left) => match among(&REPLAY_FIELDS, left) {
+            Ok(name) => format!("replay: {name}"),
+            Err(left) => format!("replay: {}", of_slot(&MOMENT_FIELDS, left)),
+        },
     }
+}
+
+/// A field of nine bytes a slot.
+fn of_slot(fields: &[(&'static str, usize)], offset: usize) -> String {
+    let name = among(fields, offset % MOMENT_BYTES).unwrap_or("?");
+    format!("{name} of slot {}", offset / MOMENT_BYTES)
 }
 
 fn sheet_field(offset: usize) -> String {
@@ -128,6 +154,8 @@ pub fn output_length(case: &Case, operation: &Operation) -> usize {
         Operation::WriteMessage { room, .. } => 1 + usize::from(*room),
         Operation::ReadMessage(_) => READING_FIELDS.iter().map(|(_, length)| length).sum(),
         Operation::Sheet(_) => TAKEN_BYTES,
+        Operation::Lateness { .. } => REPORT_BYTES,
+        Operation::Totals(_) => TOTALS_BYTES,
     }
 }
 
@@ -153,6 +181,10 @@ pub fn name(case: &Case, offset: usize) -> String {
                     ("read", among(&READING_FIELDS, left).unwrap_or("?").to_string())
                 }
                 Operation::Sheet(_) => ("sheet", sheet_field(left)),
+                Operation::Lateness { .. } => ("lateness", of_slot(&DIFFERENCE_FIELDS, left)),
+                Operation::Totals(_) => {
+                    ("totals", among(&TOTALS_FIELDS, left).unwrap_or("?").to_string())
+                }
             };
             return format!("operation {index} ({what}), {field}");
         }

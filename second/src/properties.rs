@@ -150,7 +150,10 @@ fn read_back(stream: &[u8]) -> Case {
 fn without_noise(case: &Case) -> Case {
     let mut case = case.clone();
     for operation in &mut case.operations {
-        if let Operation::Lend { noise, .. } | Operation::LendReplay { noise, .. } = operation {
+        if let Operation::Lend { noise, .. }
+        | Operation::LendReplay { noise, .. }
+        | Operation::Lateness { noise, .. } = operation
+        {
             *noise = 0;
         }
     }
@@ -239,10 +242,52 @@ fn names_tell_the_fields_of_a_replay() {
         (image + 9, "replay: stamp bytes"),
         (image + 10, "replay: advances answered"),
         (image + 11, "replay: ended"),
+        (image + 12, "replay: made Ready of slot 0"),
+        (image + 13, "replay: moment of slot 0"),
+        (image + 12 + 9 * 31, "replay: made Ready of slot 31"),
+        (image + 12 + 9 * 31 + 8, "replay: moment of slot 31"),
     ];
     for (at, field) in fields {
         assert_eq!(names::name(&case, at), format!("operation 0 (replay), {field}"));
     }
+}
+
+#[test]
+fn names_tell_the_fields_of_a_report_and_of_a_list() {
+    let mut case = Of::Lateness.case(SEED, 0);
+    let seen = Box::new([None; 32]);
+    case.operations = vec![Operation::Lateness { seen, noise: 0 }, Operation::Totals(Vec::new())];
+    let fields = [
+        (0, "0 (lateness), whether there is a difference of slot 0"),
+        (8, "0 (lateness), difference of slot 0"),
+        (9 * 31, "0 (lateness), whether there is a difference of slot 31"),
+        (9 * 31 + 8, "0 (lateness), difference of slot 31"),
+        (288, "1 (totals), number"),
+        (289, "1 (totals), early"),
+        (293, "1 (totals), on time"),
+        (297, "1 (totals), late"),
+        (301, "1 (totals), least"),
+        (309, "1 (totals), greatest"),
+        (324, "1 (totals), sum"),
+    ];
+    for (at, field) in fields {
+        assert_eq!(names::name(&case, at), format!("operation {field}"));
+    }
+}
+
+#[test]
+fn cases_of_lateness_reach_all_that_they_can() {
+    let mut coverage = Coverage::new();
+    let (mut replays, mut lists) = (0, 0);
+    for number in 0..8000 {
+        let case = Of::Lateness.case(SEED, number);
+        let operations = case.operations.iter();
+        replays += operations.clone().filter(|one| matches!(one, Operation::Replay { .. })).count();
+        lists += operations.filter(|one| matches!(one, Operation::Totals(_))).count();
+        check_case(&case, &mut coverage, &mut Vec::new()).unwrap();
+    }
+    assert_eq!(coverage.missing(Of::Lateness), Vec::<String>::new());
+    assert!((76_000..92_000).contains(&(replays + lists)), "{replays} {lists}");
 }
 
 #[test]

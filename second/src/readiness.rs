@@ -20,6 +20,7 @@ impl Bench<'_> {
     /// Every slot Pending until c + DL Up Time; a DRS is owed.
     pub fn link_up(&mut self) {
         self.state.port.link = true;
+        self.clear_moments(Fault::MomentsClearedByLinkUp);
         self.state.port.owed = !self.has(Fault::LinkUpOwesNothing);
         let now = self.state.port.clock;
         for slot in 0..self.state.statuses.len() {
@@ -44,6 +45,7 @@ impl Bench<'_> {
 
     pub fn link_down(&mut self) {
         self.take_down();
+        self.clear_moments(Fault::MomentsClearedByLinkDown);
         if !self.has(Fault::LinkDownKeepsQueue) {
             self.empty_queue();
         }
@@ -67,6 +69,7 @@ impl Bench<'_> {
 
     pub fn cold_reset(&mut self) {
         self.take_down();
+        self.clear_moments(Fault::MomentsClearedByColdReset);
         if !self.has(Fault::ColdResetKeepsQueue) {
             self.empty_queue();
         }
@@ -90,6 +93,7 @@ impl Bench<'_> {
     /// In progress until c + min(T, 100 ms), Pending until c + T.
     pub fn start_flr(&mut self, slot: usize) {
         self.reset_slot(slot, Reset::Flr);
+        self.clear_moment(slot, Fault::MomentClearedByFlr);
         if self.has(Fault::FlrResetsEverySlot) {
             for other in 0..self.state.statuses.len() {
                 self.reset_slot(other, Reset::Flr);
@@ -112,6 +116,7 @@ impl Bench<'_> {
     /// PowerState went from 3 to 0: Pending until c + D3hot time, with either bit 3.
     pub fn start_d0(&mut self, slot: usize, no_soft_reset: bool) {
         self.reset_for_d0(slot, no_soft_reset);
+        self.clear_moment(slot, Fault::MomentClearedByD3hot);
         if no_soft_reset && self.has(Fault::NoSoftResetStaysReady) {
             return;
         }
@@ -188,10 +193,11 @@ impl Bench<'_> {
     }
 
     fn become_ready(&mut self, slot: usize, answer: &mut Answer) {
-        let Status::Pending { cause, .. } = self.state.statuses[slot] else {
+        let Status::Pending { cause, ready } = self.state.statuses[slot] else {
             return;
         };
         self.state.statuses[slot] = Status::Ready;
+        self.note_ready(slot, cause, ready);
         let reason = match (cause, self.fault) {
             (Cause::Flr { .. }, Fault::ReasonsSwapped) => REASON_D3HOT,
             (Cause::D3hot, Fault::ReasonsSwapped) => REASON_FLR,

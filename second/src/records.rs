@@ -67,6 +67,8 @@ impl Bench<'_> {
     pub fn run_record(&mut self, record: &[u8]) -> Answer {
         let mut answer = Answer::default();
         let body = &record[1..];
+        let made = self.made.len();
+        (self.running.kind, self.running.clock) = (record[0], self.state.port.clock);
         match record[0] {
             ADVANCE if self.has(Fault::NumbersHighByteFirst) => {
                 self.advance(number(body).swap_bytes(), &mut answer);
@@ -86,6 +88,7 @@ impl Bench<'_> {
             _ => answer.data = self.status_bits(),
         }
         self.settle(&mut answer);
+        self.leave_record(made);
         answer
     }
 

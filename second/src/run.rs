@@ -5,14 +5,16 @@ use std::io::{self, Read, Write};
 use crate::bench::Bench;
 use crate::faults::Fault;
 use crate::feed::Fed;
+use crate::lateness::{totals, Differences, Seen, Totals};
 use crate::messages::{self, Message, Unreadable, Unwritable};
 use crate::registers::Table;
 use crate::replay::{Replay, Replayed};
 use crate::setup::{SlotEntry, MOST_SLOTS};
 use crate::sheets::Taken;
-use crate::state::{Port, State};
+use crate::state::{Port, State, Status};
 use crate::stream::{
-    put_image, put_image_with, put_replay, put_taken, Bad, Case, Operation, Source, Trouble,
+    put_differences, put_image, put_image_with, put_replay, put_taken, put_totals, Bad, Case,
+    Operation, Source, Trouble,
 };
 
 /// What every answer byte is before a feed, and every byte of a message's room before it is written.
@@ -54,7 +56,21 @@ pub struct ReplayCall {
     pub room: usize,
     pub before: Replay,
     pub port_before: Port,
+    pub statuses_before: Vec<Status>,
     pub replayed: Replayed,
+}
+
+/// A report by slot: the times that were handed in, and what came of them.
+pub struct Report {
+    pub seen: Seen,
+    pub noise: bool,
+    pub differences: Differences,
+}
+
+/// A list of differences, and what it comes to.
+pub struct Listed {
+    pub list: Vec<i64>,
+    pub totals: Totals,
 }
 
 /// What an operation gave, beside the bytes written for it.
@@ -67,6 +83,8 @@ pub enum Gave {
     Sheet(Box<Sheet>),
     Replay(Box<ReplayCall>),
     LentReplay { noise: bool },
+    Lateness(Box<Report>),
+    Totals(Listed),
 }
 
 /// Runs one operation and writes its output.
@@ -84,6 +102,7 @@ pub fn run_operation(bench: &mut Bench, operation: &Operation, out: &mut Vec<u8>
             if bench.has(Fault::ReplayFreshAtLend) {
                 bench.replay = Replay::FRESH;
             }
+            bench.lend_moments();
             Gave::Lent { noise: *noise != 0 }
         }
         Operation::WriteMessage { kind, id, reason, room } => {
@@ -107,10 +126,18 @@ pub fn run_operation(bench: &mut Bench, operation: &Operation, out: &mut Vec<u8>
             Gave::Replay(Box::new(run_replay(bench, *room, input, out)))
         }
         Operation::LendReplay { replay, noise } => {
-            if !bench.has(Fault::ReplayLendForgotten) {
-                bench.replay = *replay;
-            }
+            bench.replay = bench.take_lent(replay);
             Gave::LentReplay { noise: *noise != 0 }
+        }
+        Operation::Lateness { seen, noise } => {
+            let differences = bench.lateness(seen);
+            put_differences(&differences, out);
+            Gave::Lateness(Box::new(Report { seen: **seen, noise: *noise != 0, differences }))
+        }
+        Operation::Totals(list) => {
+            let totals = totals(list, bench.fault);
+            put_totals(&totals, out);
+            Gave::Totals(Listed { list: list.clone(), totals })
         }
     }
 }
@@ -133,17 +160,18 @@ fn put_fed(fed: &Fed, answers: &[u8], out: &mut Vec<u8>) {
 
 fn run_replay(bench: &mut Bench, room: u16, input: &[u8], out: &mut Vec<u8>) -> ReplayCall {
     let (before, port_before) = (bench.replay, bench.state.port.clone());
+    let statuses_before = bench.state.statuses.clone();
     let mut answers = vec![UNTOUCHED; usize::from(room)];
     let replayed = bench.replay(input, &mut answers);
     put_fed(&replayed.fed, &answers, out);
     put_state(&bench.state, bench.fault, out);
     put_replay_state(bench, replayed.fed.number, out);
     let (input, room) = (input.to_vec(), answers.len());
-    ReplayCall { input, room, before, port_before, replayed }
+    ReplayCall { input, room, before, port_before, statuses_before, replayed }
 }
 
 fn put_replay_state(bench: &Bench, number: u8, out: &mut Vec<u8>) {
-    let mut replay = bench.replay;
+    let mut replay = Replay { moments: bench.moments_shown(), ..bench.replay };
     match bench.fault {
         Fault::ReplayImageLeftOut if (1..=5).contains(&number) => return,
         Fault::ReplayBytesOf4Shown if replay.taken > 4 => replay.bytes = [0; 4],
@@ -315,19 +343,75 @@ mod tests {
         assert_eq!((ended, output), (Ended::BadCase(Bad::SheetLength), Vec::new()));
     }
 
+    /// A replay image: its front, and moments with the first two and the last as given.
+    fn replay_image(front: [u8; 12], moments: [(u8, u64); 3]) -> Vec<u8> {
+        let [first, second, last] = moments.map(|(made, when)| {
+            let mut bytes = vec![made];
+            bytes.extend(when.to_le_bytes());
+            bytes
+        });
+        [&front[..], &first, &second, &[0; 29 * 9], &last].concat()
+    }
+
     #[test]
     fn a_replay_image_comes_back_without_what_is_ignored() {
-        let lent = [0, 9, 9, 9, 9, 2, 5, 6, 7, 8, 200, 77];
         let call = [6, 0, 0, 0, 0];
+        let lent =
+            replay_image([0, 9, 9, 9, 9, 2, 5, 6, 7, 8, 200, 77], [(0, 5), (1, u64::MAX), (1, 0)]);
         let (ended, output) = run(&[&[7], &lent[..], &call, &[0]].concat());
         assert_eq!(ended, Ended::AtItsEnd);
-        let image = [0, 0, 0, 0, 0, 2, 5, 6, 0, 0, 200, 77];
+        let front = [0, 0, 0, 0, 0, 2, 5, 6, 0, 0, 200, 77];
+        let image = replay_image(front, [(0, 0), (1, u64::MAX), (1, 0)]);
         assert_eq!(output, [&[1], &[0; 8 + 46][..], &image].concat());
-        let lent = [1, 9, 9, 9, 9, 255, 5, 6, 7, 8, 1, 2];
+        let front = [1, 9, 9, 9, 9, 255, 5, 6, 7, 8, 1, 2];
+        let lent = replay_image(front, [(1, 1), (0, 0), (1, 1 << 63)]);
         let (_, output) = run(&[&[7], &lent[..], &call, &[0]].concat());
         assert_eq!(output[55..], lent);
         let (ended, output) = run(&[&[7, 2], &lent[1..], &call, &[0]].concat());
         assert_eq!((ended, output), (Ended::BadCase(Bad::Begun), Vec::new()));
+        for (slot, made) in [(0, 2), (17, 255), (31, 2)] {
+            let mut lent = lent.clone();
+            lent[12 + 9 * slot] = made;
+            let (ended, output) = run(&[&[7], &lent[..], &call, &[0]].concat());
+            assert_eq!((ended, output), (Ended::BadCase(Bad::Made), Vec::new()));
+        }
+    }
+
+    #[test]
+    fn a_report_of_no_slots_has_no_difference() {
+        let front = [0; 12];
+        let lent = replay_image(front, [(1, 5), (1, 7), (1, 9)]);
+        let seen = &replay_image(front, [(1, 5), (0, 7), (1, 9)])[12..];
+        let (ended, output) = run(&[&[7], &lent[..], &[8], seen, &[0]].concat());
+        assert_eq!((ended, output), (Ended::AtItsEnd, vec![0; 288]));
+        for (slot, byte) in [(0, 2), (31, 255)] {
+            let mut seen = seen.to_vec();
+            seen[9 * slot] = byte;
+            let (ended, output) = run(&[&[8], &seen[..], &[0]].concat());
+            assert_eq!((ended, output), (Ended::BadCase(Bad::Seen), Vec::new()));
+        }
+    }
+
+    #[test]
+    fn a_list_is_read_with_its_signs() {
+        let list = [3i64, -5, 0].map(i64::to_le_bytes).concat();
+        let (ended, output) = run(&[&[9, 3, 0], &list[..], &[0]].concat());
+        let counts = [1u32; 3].map(u32::to_le_bytes).concat();
+        let edges = [-5i64, 3, -2].map(i64::to_le_bytes).concat();
+        assert_eq!((ended, output), (Ended::AtItsEnd, [&[0], &counts[..], &edges].concat()));
+        let (ended, output) = run(&[9, 0, 0, 0]);
+        assert_eq!((ended, output), (Ended::AtItsEnd, vec![0; 37]));
+    }
+
+    #[test]
+    fn a_list_of_9100_is_read_and_a_longer_one_is_bad() {
+        for (count, number) in [(9000u16, 0), (9001, 35), (9100, 35)] {
+            let list = vec![0; 8 * usize::from(count)];
+            let (ended, output) = run(&[&[9], &count.to_le_bytes()[..], &list, &[0]].concat());
+            assert_eq!((ended, output[0]), (Ended::AtItsEnd, number));
+        }
+        let (ended, output) = run(&[&[9], &9101u16.to_le_bytes()[..], &[0; 80_000]].concat());
+        assert_eq!((ended, output), (Ended::BadCase(Bad::ListLength), Vec::new()));
     }
 
     #[test]
@@ -346,7 +430,7 @@ mod tests {
 
     #[test]
     fn other_operations_are_bad_and_the_output_before_them_stands() {
-        for operation in [0x05].into_iter().chain(0x08..=0x0C).chain([0x0F, 0x10, 0xFF]) {
+        for operation in [0x05].into_iter().chain(0x0A..=0x0C).chain([0x0F, 0x10, 0xFF]) {
             let (ended, output) = run(&[0x0E, 0, operation, 0, 0, 0]);
             let way = if operation > 0x0E { Bad::Operation } else { Bad::NotLanded };
             assert_eq!(ended, Ended::BadCase(way));

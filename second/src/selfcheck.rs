@@ -7,10 +7,13 @@ use crate::coverage::{report, Coverage};
 use crate::fast::held;
 use crate::faults::Fault;
 use crate::generate::Of;
+use crate::lateness::{self, Difference, Totals, FARTHEST};
 use crate::messages::{self, Message, MESSAGE_LENGTH};
 use crate::random::Random;
 use crate::replay::Replay;
-use crate::run::{run_operation, Gave, Reading, ReplayCall, Sheet, Wrote, UNTOUCHED};
+use crate::run::{
+    run_operation, Gave, Listed, Reading, ReplayCall, Report, Sheet, Wrote, UNTOUCHED,
+};
 use crate::setup::SlotEntry;
 use crate::sheets::{self, Line};
 use crate::state::State;
@@ -26,6 +29,8 @@ fn wrong(before: &State, bench: &Bench, gave: &Gave) -> Option<&'static str> {
         Gave::Wrote(wrote) => return wrong_write(wrote),
         Gave::Reading(reading) => return wrong_reading(reading),
         Gave::Sheet(sheet) => return wrong_sheet(sheet, *before != bench.state),
+        Gave::Lateness(report) => return wrong_report(report, bench, *before != bench.state),
+        Gave::Totals(listed) => return wrong_totals(listed, *before != bench.state),
     };
     if (1..=5).contains(&number) {
         return (*before != bench.state).then_some("a refusal changed the state");
@@ -46,11 +51,70 @@ fn wrong_replay(before: &State, bench: &Bench, call: &ReplayCall) -> Option<&'st
     if bench.is_unsound() {
         return Some("soundness was not kept");
     }
+    if wrong_moments(bench, call) {
+        return Some("a replay keeps other moments than those at which it made slots Ready");
+    }
     if bench.replay_does_not_match() {
         return Some("a replay left a state that doesn't match");
     }
     let ended = if [32, 33].contains(&number) { number } else { 0 };
     (bench.replay.ended != ended).then_some("a replay ended otherwise than by its number")
+}
+
+/// A moment that a call changed is one of those at which it made the slot Ready, the last, and lies within its time.
+fn wrong_moments(bench: &Bench, call: &ReplayCall) -> bool {
+    let (first, last) = (call.port_before.clock, bench.state.port.clock);
+    let made = &call.replayed.fed.made;
+    let within = made.iter().all(|made| first <= made.moment && made.moment <= last);
+    let slots = call.before.moments.iter().zip(&bench.replay.moments).enumerate();
+    let kept = slots.map(|(slot, (before, after))| {
+        let of_slot = made.iter().rev().find(|made| made.slot == slot);
+        of_slot.map_or(*before, |made| Some(made.moment)) == *after
+    });
+    !within || kept.filter(|kept| !kept).count() > 0
+}
+
+/// The bench time and the difference add up to the seen time; a report changes nothing.
+fn wrong_report(report: &Report, bench: &Bench, changed: bool) -> Option<&'static str> {
+    let Report { seen, differences, .. } = report;
+    let far = FARTHEST.unsigned_abs();
+    for (slot, difference) in differences.iter().enumerate() {
+        let made = bench.replay.moments[slot].filter(|_| slot < bench.setup.slot_count());
+        let right = match (seen[slot], made, difference) {
+            (Some(seen), Some(made), Difference::Of(of)) => {
+                let distance = of.unsigned_abs();
+                made.0.checked_add_signed(*of) == Some(seen.0) && distance <= far
+            }
+            (Some(seen), Some(made), Difference::Outside) => seen.0.abs_diff(made.0) > far,
+            (None, _, Difference::None) | (_, None, Difference::None) => true,
+            _ => false,
+        };
+        if !right {
+            return Some("a difference is wrong");
+        }
+    }
+    changed.then_some("a report changed the state")
+}
+
+/// Totals hold together, are those of the list in another order, and change nothing.
+fn wrong_totals(listed: &Listed, changed: bool) -> Option<&'static str> {
+    let Listed { list, totals: given } = listed;
+    let backwards: Vec<i64> = list.iter().rev().copied().collect();
+    if lateness::totals(&backwards, Fault::None) != *given {
+        return Some("another order gives other totals");
+    }
+    if given.number != 0 {
+        let refused = Totals { number: given.number, ..Totals::NONE };
+        return (*given != refused).then_some("totals are given with a number");
+    }
+    let Totals { early, on_time, late, least, greatest, sum, .. } = *given;
+    let count = list.len() as i128;
+    let counted = u64::from(early) + u64::from(on_time) + u64::from(late) == list.len() as u64;
+    let between = i128::from(least) * count <= i128::from(sum)
+        && i128::from(sum) <= i128::from(greatest) * count;
+    let there = list.is_empty() || list.contains(&least) && list.contains(&greatest);
+    let right = counted && between && there && least <= greatest;
+    (!right || changed).then_some("totals don't hold together")
 }
 
 /// Whether an operation other than a replay or the lending of its state changed that state.

@@ -3,7 +3,7 @@
 use crate::bench::Bench;
 use crate::faults::Fault;
 use crate::records::record_length;
-use crate::replay::{Replay, STAMP_BYTES};
+use crate::replay::{Moments, Replay, STAMP_BYTES};
 use crate::run::run_operation;
 use crate::setup::{Setup, SlotEntry};
 use crate::sheets::LINE_END;
@@ -119,10 +119,28 @@ fn show_state(state: &State) -> String {
 }
 
 fn show_replay(replay: &Replay) -> String {
-    let Replay { earlier, taken, bytes, answered, ended } = replay;
+    let Replay { earlier, taken, bytes, answered, ended, moments } = replay;
     let earlier = earlier.map_or("not begun".to_string(), |stamp| format!("earlier {}", stamp.0));
     let bytes = hex(bytes);
+    let moments = show_times("made Ready", moments);
     format!("  {earlier}, {taken} stamp bytes of {bytes}, {answered} answered, ended {ended}\n")
+        + &moments
+}
+
+/// The slots that have a time.
+fn show_times(what: &str, times: &Moments) -> String {
+    let there = times.iter().enumerate().filter_map(|(slot, time)| Some((slot, (*time)?)));
+    there.map(|(slot, time)| format!("  slot {slot} {what} at {}\n", time.0)).collect()
+}
+
+/// A list in order, equal neighbours together.
+fn show_list(list: &[i64]) -> String {
+    let runs = list.chunk_by(|one, next| one == next).map(|run| match run {
+        [one] => one.to_string(),
+        run => format!("{} times {}", run.len(), run[0]),
+    });
+    let runs: Vec<String> = runs.collect();
+    format!("totals of {} differences\n  {}\n", list.len(), runs.join(", "))
 }
 
 /// A capture, cut where the bench that has run the case so far cuts it.
@@ -173,6 +191,14 @@ fn show_operation(bench: &Bench, operation: &Operation) -> String {
         Operation::LendReplay { replay, .. } => {
             format!("lend this replay state, with bytes that are ignored\n{}", show_replay(replay))
         }
+        Operation::Lateness { seen, noise: 0 } => {
+            format!("lateness by slot\n{}", show_times("seen", seen))
+        }
+        Operation::Lateness { seen, .. } => {
+            let seen = show_times("seen", seen);
+            format!("lateness by slot, with bytes that are ignored\n{seen}")
+        }
+        Operation::Totals(list) => show_list(list),
     }
 }
 

@@ -1,13 +1,20 @@
 //! Making a failing case smaller while it still fails.
 
+use crate::bench::Bench;
+use crate::faults::Fault;
+use crate::lateness::{is_outside, Seen};
 use crate::messages::FRS;
-use crate::replay::{Replay, Stamp};
+use crate::replay::{Moments, Replay, Stamp};
+use crate::run::run_operation;
 use crate::setup::{SlotEntry, MOST_SLOTS, WORDS_PER_SLOT};
 use crate::sheets::LINE_END;
 use crate::show::{split_captured, split_records};
 use crate::state::{Cause, Port, State, Status};
 use crate::stream::{Case, Operation, MOST_BYTES};
 use crate::times::{Code, Nanos};
+
+/// In so many places of a list at most something is tried.
+const MOST_PLACES: usize = 32;
 
 /// Tries smaller cases until none fails any more or the tries run out.
 pub fn shrink(case: Case, tries: usize, mut fails: impl FnMut(&Case) -> bool) -> Case {
@@ -36,9 +43,10 @@ pub fn shrink(case: Case, tries: usize, mut fails: impl FnMut(&Case) -> bool) ->
 fn candidates(case: &Case) -> Vec<Case> {
     let mut all = without_operations(case);
     all.extend(joined_feeds(case));
+    all.extend(lent_instead(case));
     all.extend(fewer_slots(case));
     all.extend(fewer_cells(case));
-    for index in 0..case.operations.len() {
+    for index in reports_first(&case.operations) {
         for operation in simpler_operations(&case.operations[index]) {
             let mut next = case.clone();
             next.operations[index] = operation;
@@ -47,6 +55,13 @@ fn candidates(case: &Case) -> Vec<Case> {
     }
     all.extend(simpler_setups(case));
     all
+}
+
+/// The places of all operations; a report goes by what came before it, and is made small before that.
+fn reports_first(operations: &[Operation]) -> Vec<usize> {
+    let mut places: Vec<usize> = (0..operations.len()).collect();
+    places.sort_by_key(|place| !matches!(operations[*place], Operation::Lateness { .. }));
+    places
 }
 
 fn without_operations(case: &Case) -> Vec<Case> {
@@ -97,6 +112,21 @@ fn joined_feeds(case: &Case) -> Vec<Case> {
             next.operations.remove(index);
             next.operations[index] = both;
             all.push(next);
+        }
+    }
+    all
+}
+
+/// The same case with a replay that is left out, and what it leaves lent in its place.
+fn lent_instead(case: &Case) -> Vec<Case> {
+    let mut bench = Bench::new(&case.setup, Fault::None);
+    let mut all = Vec::new();
+    for (index, operation) in case.operations.iter().enumerate() {
+        run_operation(&mut bench, operation, &mut Vec::new());
+        if matches!(operation, Operation::Replay { .. }) {
+            let replay = Box::new(bench.replay);
+            let lend = Operation::LendReplay { replay, noise: 0 };
+            all.push(changed(case, |next| next.operations[index] = lend));
         }
     }
     all
@@ -162,7 +192,51 @@ fn simpler_operations(operation: &Operation) -> Vec<Operation> {
         }
         Operation::ReadMessage(bytes) => simpler_readings(bytes),
         Operation::Sheet(text) => simpler_sheets(text),
+        Operation::Lateness { seen, noise } => simpler_reports(seen, *noise),
+        Operation::Totals(list) => simpler_lists(list),
     }
+}
+
+/// Fewer times seen, and each of them 0 in turn.
+fn simpler_reports(seen: &Seen, noise: u64) -> Vec<Operation> {
+    let quiet = Operation::Lateness { seen: Box::new(*seen), noise: 0 };
+    let simpler = simpler_times(seen).into_iter();
+    let reports = simpler.map(|seen| Operation::Lateness { seen: Box::new(seen), noise });
+    std::iter::once(quiet).chain(reports).collect()
+}
+
+/// No time at all, one of them alone, each of them left out, and each 0 in turn.
+fn simpler_times(times: &Moments) -> Vec<Moments> {
+    let mut all = vec![[None; MOST_SLOTS]];
+    let there: Vec<usize> = (0..MOST_SLOTS).filter(|slot| times[*slot].is_some()).collect();
+    for slot in &there {
+        all.push(changed(&[None; MOST_SLOTS], |next| next[*slot] = times[*slot]));
+    }
+    for slot in there {
+        all.push(changed(times, |next| next[slot] = None));
+        all.push(changed(times, |next| next[slot] = Some(Nanos(0))));
+    }
+    all
+}
+
+/// Fewer differences, all that are taken 0 at once, and each of them 0 in turn; in a long list only in a few places.
+fn simpler_lists(list: &[i64]) -> Vec<Operation> {
+    let zeros = |one: &i64| if is_outside(*one) { *one } else { 0 };
+    let mut lists = Vec::new();
+    let mut run = list.len();
+    while run > 0 && list.len() / run <= MOST_PLACES {
+        for from in (0..list.len()).step_by(run) {
+            let to = (from + run).min(list.len());
+            lists.push([&list[..from], &list[to..]].concat());
+        }
+        run /= 2;
+    }
+    lists.extend(list.split_first().map(|(_, rest)| rest.to_vec()));
+    lists.push(list.iter().map(zeros).collect());
+    for place in (0..list.len()).filter(|place| list[*place] != 0).take(MOST_PLACES) {
+        lists.push(changed(&list.to_vec(), |next| next[place] = 0));
+    }
+    lists.into_iter().map(Operation::Totals).collect()
 }
 
 fn simpler_lends(state: &State, noise: u64) -> Vec<Operation> {
@@ -223,7 +297,8 @@ fn simpler_stamps(room: u16, input: &[u8]) -> Vec<(u16, Vec<u8>)> {
 }
 
 fn simpler_replays(replay: &Replay, noise: u64) -> Vec<Operation> {
-    let mut all = vec![Operation::LendReplay { replay: *replay, noise: 0 }];
+    let lend = |replay, noise| Operation::LendReplay { replay: Box::new(replay), noise };
+    let mut all = vec![lend(*replay, 0)];
     for simpler in [
         Replay::FRESH,
         Replay { earlier: None, ..*replay },
@@ -233,7 +308,10 @@ fn simpler_replays(replay: &Replay, noise: u64) -> Vec<Operation> {
         Replay { answered: 0, ..*replay },
         Replay { ended: 0, ..*replay },
     ] {
-        all.push(Operation::LendReplay { replay: simpler, noise });
+        all.push(lend(simpler, noise));
+    }
+    for moments in simpler_times(&replay.moments) {
+        all.push(lend(Replay { moments, ..*replay }, noise));
     }
     all
 }
@@ -365,7 +443,6 @@ fn simpler_setups(case: &Case) -> Vec<Case> {
 #[cfg(test)]
 mod tests {
     use super::*;
-    use crate::faults::Fault;
     use crate::generate;
     use crate::run::run_case;
 
@@ -414,6 +491,52 @@ mod tests {
             let small = shrink(found.expect("the fault shows"), 3000, differs);
             assert!(differs(&small));
             assert!(small.operations.len() <= most, "{fault:?}: {}", small.operations.len());
+        }
+    }
+
+    #[test]
+    fn a_list_shrinks_to_a_few_differences() {
+        for (fault, most) in [
+            (Fault::Totals0IsLate, 1),
+            (Fault::TotalsSumOf32Bits, 1),
+            (Fault::TotalsOneMoreTaken, 1),
+            (Fault::TotalsLeastOfNone, 0),
+            (Fault::TotalsNeighboursOnce, 2),
+        ] {
+            let differs = |case: &Case| run_case(case, fault) != run_case(case, Fault::None);
+            let mut cases = (0..2000).map(|number| generate::case(2, number));
+            let found = cases.find(|case| differs(case));
+            let small = shrink(found.expect("the fault shows"), 3000, differs);
+            let [Operation::Totals(list)] = &small.operations[..] else {
+                panic!("{fault:?}: {} operations", small.operations.len());
+            };
+            assert_eq!(list.len(), most, "{fault:?}: {list:?}");
+        }
+    }
+
+    #[test]
+    fn moments_and_reports_shrink_to_one_slot() {
+        for (fault, most) in [
+            (Fault::LatenessBenchMinusSeen, 2),
+            (Fault::LatenessUpperEdgeRefused, 2),
+            (Fault::MomentsPastCountNotShown, 2),
+            (Fault::MomentNotOfFlrAtOnce, 3),
+        ] {
+            let differs = |case: &Case| run_case(case, fault) != run_case(case, Fault::None);
+            let mut cases = (0..4000).map(|number| generate::case(2, number));
+            let found = cases.find(|case| differs(case));
+            let small = shrink(found.expect("the fault shows"), 3000, differs);
+            assert!(differs(&small));
+            assert!(small.operations.len() <= most, "{fault:?}: {}", small.operations.len());
+            for operation in &small.operations {
+                match operation {
+                    Operation::Lateness { seen, .. } => assert!(seen.iter().flatten().count() < 2),
+                    Operation::LendReplay { replay, .. } => {
+                        assert!(replay.moments.iter().flatten().count() < 2);
+                    }
+                    _ => {}
+                }
+            }
         }
     }
 

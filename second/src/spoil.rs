@@ -1,14 +1,14 @@
 //! Streams that are bad in a given way: one field of a generated case set to what it must not hold.
 
 use crate::landed::LANDED;
-use crate::names::{PORT_FIELDS, REPLAY_FIELDS, STATUS_FIELDS};
+use crate::names::{MOMENT_FIELDS, PORT_FIELDS, REPLAY_FIELDS, SEEN_FIELDS, STATUS_FIELDS};
 use crate::random::Random;
 use crate::setup::MOST_SLOTS;
 use crate::state::Status;
 use crate::stream::{
-    image_length, put_case, Bad, Case, Operation, ENTRY_BYTES, FRONT_BYTES, MOST_BYTES,
-    MOST_MESSAGE, MOST_STATUSES, MOST_STREAM_CELLS, MOST_WORDS, PORT_BYTES, REPLAY_BYTES,
-    STATUS_BYTES, VERSION,
+    image_length, put_case, Bad, Case, Operation, ENTRY_BYTES, FRONT_BYTES, MOMENT_BYTES,
+    MOST_BYTES, MOST_LISTED, MOST_MESSAGE, MOST_STATUSES, MOST_STREAM_CELLS, MOST_WORDS,
+    PORT_BYTES, REPLAY_BYTES, REPLAY_FRONT_BYTES, REPORT_BYTES, STATUS_BYTES, VERSION,
 };
 
 /// Where a field stands in a stream, and what it is to hold.
@@ -65,6 +65,8 @@ fn operation_length(case: &Case, operation: &Operation) -> usize {
         Operation::WriteMessage { .. } => 5,
         Operation::ReadMessage(bytes) => 1 + bytes.len(),
         Operation::Sheet(text) => 2 + text.len(),
+        Operation::Lateness { .. } => REPORT_BYTES,
+        Operation::Totals(list) => 2 + 8 * list.len(),
     }
 }
 
@@ -172,6 +174,23 @@ impl Layout<'_> {
                 let at = self.operation(random, lends)? + 1 + offset(&REPLAY_FIELDS, "begun");
                 Spot::byte(at, above(random, 1))
             }
+            Bad::Made => {
+                let lends = |one: &Operation| matches!(one, Operation::LendReplay { .. });
+                let front = self.operation(random, lends)? + 1 + REPLAY_FRONT_BYTES;
+                let slot = MOMENT_BYTES * random.below(MOST_SLOTS);
+                let at = front + slot + offset(&MOMENT_FIELDS, "made Ready");
+                Spot::byte(at, above(random, 1))
+            }
+            Bad::Seen => {
+                let reports = |one: &Operation| matches!(one, Operation::Lateness { .. });
+                let slot = MOMENT_BYTES * random.below(MOST_SLOTS);
+                let at = self.operation(random, reports)? + 1 + slot + offset(&SEEN_FIELDS, "seen");
+                Spot::byte(at, above(random, 1))
+            }
+            Bad::ListLength => {
+                let lists = |one: &Operation| matches!(one, Operation::Totals(_));
+                Spot::u16(self.operation(random, lists)? + 1, length_above(random, MOST_LISTED))
+            }
             Bad::MessageRoom => {
                 let writes = |one: &Operation| matches!(one, Operation::WriteMessage { .. });
                 Spot::byte(self.operation(random, writes)? + 5, above(random, MOST_MESSAGE as u8))
@@ -273,7 +292,8 @@ mod tests {
         let lengths = |fields: &[(&str, usize)]| fields.iter().map(|(_, length)| length).sum();
         let fields = [&PORT_FIELDS[..], &STATUS_FIELDS, &REPLAY_FIELDS];
         let lengths: [usize; 3] = fields.map(lengths);
-        assert_eq!(lengths, [PORT_BYTES, STATUS_BYTES, REPLAY_BYTES]);
+        assert_eq!(lengths, [PORT_BYTES, STATUS_BYTES, REPLAY_FRONT_BYTES]);
         assert_eq!(lengths, [46, 27, 12]);
+        assert_eq!([REPLAY_BYTES, REPORT_BYTES], [300, 288]);
     }
 }

@@ -2,12 +2,14 @@ pub mod Advancing
 pub mod AdvancesExactly
 pub mod Standing
 pub mod Stepping
+pub mod Alike
 pub mod Same
 pub mod Reasons
 pub mod Joining
 pub mod Kept
 pub mod Refusing
 pub mod Theorem
+pub mod Noting
 pub mod Steps
 pub mod Wholes
 pub mod Entries

@@ -16,20 +16,13 @@ use Rattle.trace.specs.Bench.{Device, Ran, runs}
 use Rattle.trace.specs.Feed.{kindAt, feedOpen}
 use Rattle.trace.specs.Feed as Feed
 use Rattle.trace.specs.Exactly.{joinedUp, AllWhole}
-use Rattle.trace.proofs.Records.{carrying, Complete, complete-at, length-whole, feed-complete}
+use Rattle.trace.proofs.Records.{carrying, complete-at, feed-complete}
+use Rattle.trace.proofs.Fronts.{whole-front}
 use Rattle.trace.proofs.Records as Records
 use Rattle.capture.specs.Advances.{was, stampIn, back, due, advance, advanceBytes}
 use Rattle.capture.specs.Replay.{Progress, afterEntry, moreAnswered, later, replayOpen}
 use Rattle.capture.proofs.Advancing.{bytes-advance, advance-whole}
 use Rattle.capture.proofs.Steps.{InOrder, AtRecord, moreStamps, none-more, one-then, later-zero, later-later, stamps, one-advance, whole-record}
-
--- a whole record, with more behind it
-whole-front : (w more : List ℕ) → next w ≡ complete w → Complete (w ++ more) w
-whole-front [] more e = let h = complete-at [] [] e in absurd (omega (arith, h .fits))
-whole-front (k ∷ rest) more e =
-    let h = complete-at (k ∷ rest) (k ∷ rest) e in
-    let l = length-whole (k ∷ rest) (k ∷ rest) h .0 in
-    record { kind = h .kind; is = sym (take-at (k ∷ rest) more (suc (body k)) l); fits = omega (arith, h .fits, length-append (k ∷ rest) more) }
 
 -- ---- whole records one after the other
 pub joined-append : (xs ys : List (List ℕ)) → joinedUp (xs ++ ys) ≡ joinedUp xs ++ joinedUp ys

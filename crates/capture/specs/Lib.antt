@@ -6,5 +6,6 @@ pub mod Calls
 pub mod Ending
 pub mod Cutting
 pub mod AsOneTrace
+pub mod Noting
 pub mod Exactly
 pub mod inner

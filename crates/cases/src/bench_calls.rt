@@ -55,12 +55,14 @@ pub fn replay_lent(
     let port = turn.port;
     let statuses = turn.statuses;
     let state = turn.replay;
+    let moments = turn.moments;
     replay::replay(
         setup,
         port,
         statuses,
         lent,
         state,
+        moments,
         live,
         defaults,
         cells,

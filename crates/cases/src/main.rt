@@ -1,4 +1,4 @@
-// Reads a stream of cases, version 2, from standard input, drives set-up, feed, replay, time sheets and the reader and writer of
+// Reads a stream of cases, version 2, from standard input, drives set-up, feed, replay, the lateness report, time sheets and the reader and writer of
 // messages, and writes what they gave and the state afterwards. What the stream keeps for later requests has its default, or the stream is malformed. A
 // malformed stream ends it with `bad case` on standard error; what was written before stands.
 mod input; // bytes and words from standard input
@@ -9,6 +9,7 @@ mod bench_calls; // the three calls that the cases drive
 mod calls; // what a call of feed or of replay reads and writes
 mod operations; // set-up, feed, and lending a state
 mod replay_operations; // replay, and lending the state of one
+mod lateness_operations; // the lateness report
 mod sheet_operation; // a time sheet
 mod message_operations; // a message written, and one read
 mod running; // one case

@@ -11,9 +11,14 @@ use crate::turn::ended;
 use crate::turn::with_replay;
 use bits::at_most;
 use capture::Replay;
+use readiness::Moments;
 use replay::Replayed;
 use replay_image::REPLAY_IMAGE;
 use replay_image::is_good_image;
+use replay_image::moments::MOMENTS_IMAGE;
+use replay_image::moments::are_good_moments;
+use replay_image::moments::moments_in;
+use replay_image::moments::put_moments;
 use replay_image::put_replay;
 use replay_image::replay_in;
 
@@ -41,10 +46,13 @@ fn replay_first(
     )
 }
 
-fn write_replay(replay: Replay) {
+fn write_replay(replay: Replay, moments: Moments) {
     let mut image = [0u8; REPLAY_IMAGE];
+    let mut kept = [0u8; MOMENTS_IMAGE];
     put_replay(&mut image, replay);
+    put_moments(&mut kept, moments);
     write_first(&image, REPLAY_IMAGE);
+    write_first(&kept, MOMENTS_IMAGE);
 }
 
 // After a replay: the state is written, then that of the replay.
@@ -52,9 +60,10 @@ fn after_replay(lent: usize, turn: Turn, replayed: Replayed, live: &[u32], cells
     let port = replayed.port;
     let statuses = replayed.statuses;
     let replay = replayed.replay;
+    let moments = replayed.moments;
     let next = after_call(lent, turn, port, statuses, live, cells);
-    write_replay(replay);
-    with_replay(next, replay)
+    write_replay(replay, moments);
+    with_replay(next, replay, moments)
 }
 
 // 06: every answer byte is EEh before the call.
@@ -94,11 +103,12 @@ pub fn replay_operation(
 // 07: a state of a replay replaces this one.
 pub fn lend_replay_operation(turn: Turn) -> Turn {
     let mut image = [0u8; REPLAY_IMAGE];
-    if !fill(&mut image, REPLAY_IMAGE) {
+    let mut kept = [0u8; MOMENTS_IMAGE];
+    if !fill(&mut image, REPLAY_IMAGE) | !fill(&mut kept, MOMENTS_IMAGE) {
         return ended(turn, false);
     }
-    if !is_good_image(&image) {
+    if !is_good_image(&image) | !are_good_moments(&kept) {
         return ended(turn, false);
     }
-    with_replay(turn, replay_in(&image))
+    with_replay(turn, replay_in(&image), moments_in(&kept))
 }

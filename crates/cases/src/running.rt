@@ -7,6 +7,8 @@ use crate::front::setup_in;
 use crate::input::byte_or_255;
 use crate::input::fill;
 use crate::input::read_words;
+use crate::lateness_operations::lateness_operation;
+use crate::lateness_operations::totals_operation;
 use crate::message_operations::read_operation;
 use crate::message_operations::write_operation;
 use crate::operations::feed_operation;
@@ -37,6 +39,8 @@ fn operate(
         4 => sheet_operation(turn),
         6 => replay_operation(lent, turn, live, defaults, cells),
         7 => lend_replay_operation(turn),
+        8 => went_by(turn, lateness_operation(turn)),
+        9 => went_by(turn, totals_operation()),
         0x0D => went_by(turn, write_operation()),
         0x0E => went_by(turn, read_operation()),
         _ => ended(turn, operation == 0),

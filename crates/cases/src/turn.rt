@@ -1,12 +1,14 @@
 // What goes from one operation of a case to the next, beside the lent slices.
 use capture::Replay;
+use readiness::Moments;
 use readiness::Setup;
 use readiness::Status;
 use readiness::all_down;
+use readiness::no_moments;
 use records::Port;
 use records::blank_port;
 
-// Whether the case goes on, whether all was good so far, the set-up, the port, the statuses and the state of the replay.
+// Whether the case goes on, whether all was good so far, the set-up, the port, the statuses, the state of the replay and the moments that it keeps.
 pub struct Turn {
     pub goes_on: bool,
     pub good: bool,
@@ -14,6 +16,7 @@ pub struct Turn {
     pub port: Port,
     pub statuses: [Status; 32],
     pub replay: Replay,
+    pub moments: Moments,
 }
 
 // A case starts with everything at 0, statuses Down, and a replay that has taken nothing.
@@ -25,6 +28,7 @@ pub fn first_turn(setup: Setup) -> Turn {
         port: blank_port(),
         statuses: all_down(),
         replay: replay_state::stamps::fresh(),
+        moments: no_moments(),
     }
 }
 
@@ -52,9 +56,10 @@ pub fn with_port(turn: Turn, port: Port, statuses: [Status; 32]) -> Turn {
 }
 
 // After an operation that leaves another state of the replay.
-pub fn with_replay(turn: Turn, replay: Replay) -> Turn {
+pub fn with_replay(turn: Turn, replay: Replay, moments: Moments) -> Turn {
     let mut next = turn;
     next.replay = replay;
+    next.moments = moments;
     next
 }
 

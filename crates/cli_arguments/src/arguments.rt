@@ -1,4 +1,5 @@
 // The program's arguments, but for the last where that is `--status`.
+ghost use mathlib.Core.Path.{_≡_};
 use crate::outcome::Outcome;
 use cli_io::files::complain;
 
@@ -47,7 +48,9 @@ pub fn arg_count() -> usize {
 }
 
 // Says what was expected.
-pub fn bad_usage(expected: &[u8]) -> Outcome {
+pub fn bad_usage(expected: &[u8]) -> Outcome
+    ensures { λ r. ⌜ r ≡ Outcome.Unusable ⌝ }
+{
     complain(b"otsnebura: ");
     complain(expected);
     complain(b" (otsnebura --help)\n");

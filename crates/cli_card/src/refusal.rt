@@ -1,4 +1,5 @@
 // Why a card's set-up is refused: the slot, and the word, at fault.
+ghost use mathlib.Core.Path.{_≡_};
 use bits::u64_of_u16;
 use bits::u64_of_usize;
 use bits::word_at;
@@ -137,7 +138,9 @@ fn put_refused(line: &mut [u8], at: usize, number: u8, setup: Setup, words: &[u3
 }
 
 // Says that the set-up of the card that argument i names is refused.
-pub fn complain_refusal(i: usize, setup: Setup, number: u8, words: &[u32]) -> Outcome {
+pub fn complain_refusal(i: usize, setup: Setup, number: u8, words: &[u32]) -> Outcome
+    ensures { λ r. ⌜ r ≡ Outcome.Refused ⌝ }
+{
     let mut line = [0u8; LINE];
     name_file(i);
     let a = put_refusal(&mut line, 0, number);

@@ -14,14 +14,17 @@ use decode::gathering::size_of;
 use describe_capture::finding::end_fault;
 use describe_capture::finding::kind_fault;
 use describe_capture::stamp_words::advance_count;
+use readiness::Moments;
+use readiness::no_moments;
 use replay_state::stamps::stamp_in;
 use ticks::Stamp;
 use ticks::difference;
 
-// The bench, and how far the file is, as in a run; the replay's state; and the kind bytes.
+// The bench, and how far the file is, as in a run; the replay's state; when it last made each slot Ready; and the kind bytes.
 pub struct ReplaySession {
     pub session: Session,
     pub replay: Replay,
+    pub moments: Moments,
     pub kinds: Kinds,
 }
 
@@ -32,6 +35,7 @@ pub fn begin_replay(session: Session) -> ReplaySession
     ReplaySession {
         session: session,
         replay: replay_state::stamps::fresh(),
+        moments: no_moments(),
         kinds: no_kinds(),
     }
 }

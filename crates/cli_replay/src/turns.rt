@@ -216,10 +216,12 @@ fn after_replay(s: ReplaySession, r: Replayed, bytes: &[u8]) -> ReplaySession {
     let session = s.session;
     let kinds = s.kinds;
     let replay = r.replay;
+    let moments = r.moments;
     let n = at_most(r.consumed, bytes.len());
     ReplaySession {
         session: after(session, fed_of(r), byte_at(bytes, n)),
         replay: replay,
+        moments: moments,
         kinds: count_kinds(kinds, &bytes[0..n]),
     }
 }
@@ -237,12 +239,14 @@ fn replay_slice(
     let port = session.port;
     let statuses = session.statuses;
     let state = s.replay;
+    let moments = s.moments;
     let r = replay::replay(
         setup,
         port,
         statuses,
         setup.slots,
         state,
+        moments,
         live,
         defaults,
         cells,

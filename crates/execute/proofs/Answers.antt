@@ -1,16 +1,18 @@
 -- What a record does before slots become Ready, by what it leaves.
 use mathlib.Core.Path.{_≡_, ap, sym, _∙_}
-use mathlib.Core.List.{List}
+use mathlib.Core.List.{List, []}
 use Prim.Native.Nat.{ℕ}
 use Rattle.frs_queue.specs.Queue.{noTally}
 use Rattle.readiness.specs.declared.Status.{Status}
 use Rattle.readiness.specs.declared.Setup.{Setup}
 use Rattle.readiness.specs.declared.Dev.{Dev}
+use Rattle.readiness.specs.Events.{due}
 use Rattle.records.specs.declared.Completion.{Completion}
 use Rattle.records.specs.declared.Started.{Started}
 use Rattle.records.specs.declared.Started.the-variants as started
 use Rattle.records.specs.State.{State, state}
 use Rattle.records.specs.Answer.{Effect, does, reply, answered}
+use Rattle.records.specs.MadeReady.{readiedBy}
 use Rattle.records.specs.inner.Parts.{startedEffect}
 
 abbrev doesAll : Dev → List Status → (live cells : List ℕ) → Effect State
@@ -30,3 +32,12 @@ answered-refused setup s x k l v cells e h g = ap (answered setup s) (sym g ∙ 
 pub answered-does : (setup : Setup) (s : State) (x : Started) (d : Dev) (l : List Status) (v cells : List ℕ) (e : Effect State)
     → x ≡ started.Does d → startedEffect x l v cells ≡ e → answered setup s e ≡ answered setup s (doesAll d l v cells)
 answered-does setup s x d l v cells e h g = ap (answered setup s) (sym g ∙ ap (λ (y : Started). startedEffect y l v cells) h)
+
+-- and makes no slot Ready, or those that are due then
+pub readied-refused : (x : Started) (k : Completion) (l : List Status) (v cells : List ℕ) (e : Effect State)
+    → x ≡ started.Refused k → startedEffect x l v cells ≡ e → readiedBy e ≡ []
+readied-refused x k l v cells e h g = ap readiedBy (sym g ∙ ap (λ (y : Started). startedEffect y l v cells) h)
+
+pub readied-does : (x : Started) (d : Dev) (l : List Status) (v cells : List ℕ) (e : Effect State)
+    → x ≡ started.Does d → startedEffect x l v cells ≡ e → readiedBy e ≡ due (d .clock) l
+readied-does x d l v cells e h g = ap readiedBy (sym g ∙ ap (λ (y : Started). startedEffect y l v cells) h)

@@ -3,6 +3,7 @@ use mathlib.Core.Path.{_≡_, refl, ap}
 use mathlib.Core.Bool.{true, false, _&&_, false≢true}
 use mathlib.Core.List.{List, []}
 use Prim.Native.Nat.{ℕ}
+use Rattle.times.specs.declared.Nanos.{Nanos}
 use Rattle.frs_queue.specs.Queue.{noTally}
 use Rattle.readiness.specs.declared.Phase.{Phase}
 use Rattle.readiness.specs.declared.Phase.the-variants.{Down, Pending, Ready}
@@ -26,14 +27,14 @@ abbrev pub told : Seat → Reply → Ran Seat
 told z r = record { after = z; reply = r }
 
 -- a slot that is Ready isn't due
+pub ready-none : (clock : Nanos) (slot : ℕ) (p : Phase) → readyPhase p ≡ true → dueEvent clock slot p ≡ []
+ready-none clock slot Down h = absurd (false≢true h)
+ready-none clock slot (Pending c t) h = absurd (false≢true h)
+ready-none clock slot Ready h = refl
+
 pub ready-settles : (bus : ℕ) (entry : Slot) (slot : ℕ) (x : SlotScene) → isReady (x .status) ≡ true → slotSettles bus entry slot x ≡ x
 unfolding slotSettles
-ready-settles bus entry slot x e = by (x .status .phase) e
-  where
-    by : (p : Phase) → readyPhase p ≡ true → slotHappens bus entry x (dueEvent (x .root .dev .clock) slot p) ≡ x
-    by Down h = absurd (false≢true h)
-    by (Pending c t) h = absurd (false≢true h)
-    by Ready h = refl
+ready-settles bus entry slot x e = ap (slotHappens bus entry x) (ready-none (x .root .dev .clock) slot (x .status .phase) e)
 
 -- so a record that leaves a slot Ready is answered with what it leaves
 pub ready-answered : (bus : ℕ) (entry : Slot) (slot : ℕ) (before z : Seat) (n : ℕ) → isReady (z .status) ≡ true

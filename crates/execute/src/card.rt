@@ -15,9 +15,10 @@ ghost use Rattle.readiness.specs.Events.{due};
 ghost use Rattle.records.specs.declared.Record.the-variants as variants;
 ghost use Rattle.records.specs.State.{State, state, slotKind};
 ghost use Rattle.records.specs.Answer.{does, answered};
+ghost use Rattle.records.specs.MadeReady.{readiedBy};
 ghost use Rattle.readiness.specs.Fields.{withClock};
 ghost use Rattle.records.specs.CardRecords.{advanceEffect, linkUpEffect, linkDownEffect, coldResetEffect};
-ghost use Rattle.readiness.specs.inner.Phases.{statusesIn};
+ghost use Rattle.readiness.specs.inner.Phases.{statusesIn, momentsIn, notes};
 ghost use Rattle.records.specs.inner.Parts.{cardEffect, cardRun, cardRan, startedEffect, isRefused};
 ghost use Rattle.execute.specs.inner.Lent.{stateIn, OfCard};
 use crate::answering::plain_reply;
@@ -78,6 +79,7 @@ fn link_up(setup: Setup, dev: Dev, phases: &mut [u64]) -> Started
     ensures { λ r. ⌜ ((live cells : List ℕ) → startedEffect r (statusesIn (now (phases .exit))) live cells
         ≡ linkUpEffect setup (stateIn dev (now (phases .entry)) live cells)) ⌝ }
     ensures { λ r. ⌜ (isRefused r ≡ true → now (phases .exit) ≡ now (phases .entry)) ⌝ }
+    ensures { λ _. ⌜ momentsIn (now (phases .exit)) ≡ momentsIn (now (phases .entry)) ⌝ }
 {
     if dev.link {
         return Started::Refused(Completion::WrongState);
@@ -117,6 +119,7 @@ fn link_down(
     ensures { λ r. ⌜ ((cells : List ℕ) → startedEffect r (statusesIn (now (phases .exit))) (now (live .exit)) cells
         ≡ linkDownEffect setup (now (defaults .entry)) (stateIn dev (now (phases .entry)) (now (live .entry)) cells)) ⌝ }
     ensures { λ r. ⌜ (isRefused r ≡ true → (now (phases .exit) ≡ now (phases .entry)) × (now (live .exit) ≡ now (live .entry))) ⌝ }
+    ensures { λ _. ⌜ momentsIn (now (phases .exit)) ≡ momentsIn (now (phases .entry)) ⌝ }
 {
     if dev.link {
         reset_links(table, setup, live, defaults);
@@ -138,6 +141,7 @@ fn cold_reset(
     ensures { λ r. ⌜ ((cells : List ℕ) → startedEffect r (statusesIn (now (phases .exit))) (now (live .exit)) cells
         ≡ coldResetEffect setup (now (defaults .entry)) (stateIn dev (now (phases .entry)) (now (live .entry)) cells)) ⌝ }
     ensures { λ r. ⌜ isRefused r ≡ false ⌝ }
+    ensures { λ _. ⌜ momentsIn (now (phases .exit)) ≡ momentsIn (now (phases .entry)) ⌝ }
 {
     config_words::cold_reset(live, defaults);
     settle::stop_all(setup, dev, phases);
@@ -159,6 +163,7 @@ fn start(
     ensures { λ r. ⌜ ((cells : List ℕ) → startedEffect r (statusesIn (now (phases .exit))) (now (live .exit)) cells
         ≡ cardEffect setup (now (defaults .entry)) «record» (stateIn dev (now (phases .entry)) (now (live .entry)) cells)) ⌝ }
     ensures { λ r. ⌜ (isRefused r ≡ true → (now (phases .exit) ≡ now (phases .entry)) × (now (live .exit) ≡ now (live .entry))) ⌝ }
+    ensures { λ _. ⌜ momentsIn (now (phases .exit)) ≡ momentsIn (now (phases .entry)) ⌝ }
 {
     match record {
         Record::Advance(by) => advance(dev, by),
@@ -183,6 +188,7 @@ fn settled(setup: Setup, dev: Dev, phases: &mut [u64], cells: &mut [u32]) -> Por
     requires { ⌜ (setup .slots ≤ 32) × (length (statusesIn (now phases)) ≡ setup .slots) ⌝ }
     ensures { λ r. ⌜ ((before : State) (live : List ℕ) → cardRan r (statusesIn (now (phases .exit))) live (now (cells .exit))
         ≡ answered setup before (does (stateIn dev (now (phases .entry)) live (now (cells .entry))) noTally 0)) ⌝ }
+    ensures { λ _. ⌜ momentsIn (now (phases .exit)) ≡ notes (due (dev .clock) (statusesIn (now (phases .entry)))) (momentsIn (now (phases .entry))) ⌝ }
 {
     let port = settle::settle(setup, phases, root_port(dev), cells);
     let after = port.dev;
@@ -212,6 +218,8 @@ pub fn run_card(
     requires { ⌜ OfCard setup (now phases) (now live) ⌝ }
     ensures { λ r. ⌜ cardRan r (statusesIn (now (phases .exit))) (now (live .exit)) (now (cells .exit))
         ≡ cardRun setup (now (defaults .entry)) «record» (stateIn dev (now (phases .entry)) (now (live .entry)) (now (cells .entry))) ⌝ }
+    ensures { λ _. ⌜ momentsIn (now (phases .exit))
+        ≡ notes (readiedBy (cardEffect setup (now (defaults .entry)) «record» (stateIn dev (now (phases .entry)) (now (live .entry)) (now (cells .entry))))) (momentsIn (now (phases .entry))) ⌝ }
 {
     let started = start(
         table,

@@ -9,12 +9,14 @@ ghost use Rattle.registers.specs.Rows.{masks};
 ghost use Rattle.config_space.specs.Functions.{linkResetSlot};
 ghost use Rattle.readiness.specs.declared.Dev.{Dev};
 ghost use Rattle.readiness.specs.declared.Slot.{Slot};
+ghost use Rattle.readiness.specs.Events.{dueEvent};
+ghost use Rattle.readiness.specs.MadeReady.{madeBy};
 ghost use Rattle.frs_queue.specs.Queue.{noTally};
 ghost use Rattle.records.specs.declared.Record.the-variants as variants;
 ghost use Rattle.records.specs.State.{Seat, seat};
 ghost use Rattle.records.specs.Answer.{does};
 ghost use Rattle.records.specs.Requests.{writeSeat};
-ghost use Rattle.records.specs.inner.Parts.{slotAnswered, slotRun, slotRan};
+ghost use Rattle.records.specs.inner.Parts.{slotEffect, slotAnswered, slotReadied, slotRun, slotRan};
 use crate::answering::plain_reply;
 use crate::port::root_port;
 use crate::routing::is_access;
@@ -22,6 +24,7 @@ use crate::routing::refused_data;
 use crate::routing::route_completion;
 use crate::routing::route_of;
 use readiness::Dev;
+use readiness::Moment;
 use readiness::Slot;
 use readiness::Status;
 use records::Completion;
@@ -90,10 +93,12 @@ fn settled(
     requires { ⌜ slot < 32 ⌝ }
     ensures { λ r. ⌜ ((before : Seat) (live : List ℕ) → slotRan r live (now (cells .exit))
         ≡ slotAnswered bus entry slot before (does (seat dev status live (now (cells .entry))) noTally «data»)) ⌝ }
+    ensures { λ r. ⌜ r .made ≡ madeBy (dueEvent (dev .clock) slot (status .phase)) ⌝ }
 {
     let settled = settle::settle_slot(bus, entry, slot, status, root_port(dev), cells);
     let port = settled.port;
     let after = settled.status;
+    let made = settled.made;
     let dev = port.dev;
     let tally = port.tally;
     SlotDone {
@@ -104,6 +109,7 @@ fn settled(
             tally: tally,
             data: data,
         },
+        made: made,
     }
 }
 
@@ -146,12 +152,14 @@ fn finished(
     requires { ⌜ slot < 32 ⌝ }
     ensures { λ r. ⌜ ((before : Seat) (live : List ℕ) → slotRan r live (now (cells .exit))
         ≡ slotAnswered bus entry slot before (does (seat dev status live (now (cells .entry))) noTally 0)) ⌝ }
+    ensures { λ r. ⌜ r .made ≡ madeBy (dueEvent (dev .clock) slot (status .phase)) ⌝ }
 {
     if settle::is_ready(status) {
         return SlotDone {
             dev: dev,
             status: status,
             reply: plain_reply(Completion::Done, 0),
+            made: Moment::Never,
         };
     }
     settled(bus, entry, slot, dev, status, cells, 0)
@@ -177,6 +185,7 @@ pub fn run_write(
     requires { ⌜ (slot < 32) × (64 * slots ≤ length (now live)) × (64 * slots ≤ length (now defaults)) ⌝ }
     ensures { λ r. ⌜ slotRan r (now (live .exit)) (now (cells .exit))
         ≡ slotRun slots kind bus entry (now (defaults .entry)) slot (variants.Write q value) (seat dev status (now (live .entry)) (now (cells .entry))) ⌝ }
+    ensures { λ r. ⌜ r .made ≡ madeBy (slotReadied slot (slotEffect slots kind entry (now (defaults .entry)) (variants.Write q value) (seat dev status (now (live .entry)) (now (cells .entry))))) ⌝ }
 {
     let route = route_of(slots, kind, dev, status, false, q);
     if is_access(route) {
@@ -187,6 +196,7 @@ pub fn run_write(
         dev: dev,
         status: status,
         reply: plain_reply(route_completion(route), 0),
+        made: Moment::Never,
     }
 }
 

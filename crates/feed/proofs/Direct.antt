@@ -14,12 +14,17 @@ use Rattle.readiness.specs.declared.Cause.{Cause}
 use Rattle.readiness.specs.declared.Phase.{Phase}
 use Rattle.readiness.specs.declared.Phase.the-variants.{Down, Pending, Ready}
 use Rattle.readiness.specs.declared.Status.{Status}
+use Rattle.readiness.specs.declared.Moment.{Moment}
+use Rattle.readiness.specs.declared.Moment.the-variants.{Never}
 use Rattle.readiness.specs.declared.Slot.{Slot}
 use Rattle.readiness.specs.declared.Setup.{Setup}
 use Rattle.readiness.specs.declared.Dev.{Dev}
 use Rattle.readiness.specs.Status.{ready, allReady, entryOf}
-use Rattle.readiness.specs.Events.{due}
+use Rattle.readiness.specs.Events.{Event, due}
+use Rattle.readiness.specs.MadeReady.{madeBy}
+use Rattle.readiness.specs.inner.Phases.{notes, notesAt}
 use Rattle.readiness.specs.inner.Earliest.{readyTime, PhaseFrom, ReadyFrom}
+use Rattle.readiness.proofs.PhaseNumbers.{notes-one}
 use Rattle.readiness.proofs.Bounds.{bound-quiet, bound-set, bound-least}
 use Rattle.records.specs.declared.Record.{Record}
 use Rattle.frs_queue.specs.declared.Queue.{Queue}
@@ -31,10 +36,12 @@ use Rattle.records.specs.declared.PortDone.{PortDone}
 use Rattle.records.specs.State.{State, Seat, state, statusAt, seat, kindOfEntry, slotKind}
 use Rattle.readiness.specs.Fields.{withQueue}
 use Rattle.records.specs.PortRecords.{Front, front}
-use Rattle.records.specs.Answer.{Ran, answerBytes}
-use Rattle.records.specs.inner.Parts.{partAt, partOf, slotRun, portRun, cardRun}
+use Rattle.records.specs.Answer.{Effect, refused, does, Ran, answerBytes}
+use Rattle.records.specs.MadeReady.{readied}
+use Rattle.records.specs.inner.Parts.{partAt, partOf, slotEffect, slotReadied, slotRun, portRun, cardRun}
 use Rattle.records.proofs.SoundFacts.{owed-test}
 use Rattle.records.proofs.Parted.{run-card}
+use Rattle.records.proofs.Readying.{readied-slot}
 use Rattle.records.specs.Sound.{Sound, Fitting}
 use Rattle.feed.specs.inner.Turns.{Turned}
 use Rattle.feed.proofs.Parts.{Runs, slot-runs, port-runs}
@@ -72,6 +79,12 @@ owed-rests true false true e = sym e
 pub at-slot : (setup : Setup) (slots i : ℕ) → setup .slots ≡ slots → i < slots → partAt setup i ≡ OneSlot i
 at-slot setup slots i e h = ap (λ (b : Bool). cond b (OneSlot i) PortAlone) (lt-ltb i (setup .slots) (subst (λ (n : ℕ). i < n) (sym e) h))
 
+-- the moment of a slot that a record makes Ready
+notes-effect : (i : ℕ) (e : Effect Seat) (m : List ℕ) → notes (slotReadied i e) m ≡ notesAt (madeBy (slotReadied i e)) i m
+unfolding notes
+notes-effect i (refused c v) m = refl
+notes-effect i (does y tally v) m = notes-one (y .dev .clock) i (y .status .phase) m
+
 module _ (k : Setup) (defaults : List ℕ) (dev : Dev) (statuses : List Status) (live cells : List ℕ) (r : Record) where
   abbrev present : State
   present = state dev statuses live cells
@@ -96,7 +109,19 @@ module _ (k : Setup) (defaults : List ℕ) (dev : Dev) (statuses : List Status) 
         → Runs k defaults dev statuses live cells r (state dev statuses live′ cells) a
     still-runs i o a live′ y =
         subst (λ (l : List Status). Runs k defaults dev statuses live cells r (state dev l live′ cells) a) (set-getD statuses i ready)
-        (slot-runs k defaults dev statuses live cells r sound fits i o (record { dev = dev; status = statusAt statuses i; reply = a }) live′ cells (sym y))
+        (slot-runs k defaults dev statuses live cells r sound fits i o (record { dev = dev; status = statusAt statuses i; reply = a; made = Never }) live′ cells (sym y))
+
+    -- the moment that it notes
+    pub slot-notes : (i : ℕ) → partOf k r ≡ OneSlot i → (slots : ℕ) (entry : Slot) (kind : Kind) → k .slots ≡ slots → entryOf k i ≡ entry → kind ≡ kindOfEntry entry
+        → (status : Status) → status ≡ statusAt statuses i → (made : Moment) → made ≡ madeBy (slotReadied i (slotEffect slots kind entry defaults r (seat dev status live cells)))
+        → (m : List ℕ) → notesAt made i m ≡ notes (readied k defaults present r) m
+    slot-notes i o slots entry kind e n c status q made w m =
+        let told = slotEffect slots kind entry defaults r (seat dev status live cells) in
+        let part = slotEffect (k .slots) (slotKind k i) (entryOf k i) defaults r (seat dev (statusAt statuses i) live cells) in
+        let p : told ≡ part = (λ j. slotEffect (sym e j) ((c ∙ ap kindOfEntry (sym n)) j) (sym n j) defaults r (seat dev (q j) live cells)) in
+        ap (λ (x : Moment). notesAt x i m) (w ∙ ap (λ (y : Effect Seat). madeBy (slotReadied i y)) p)
+        ∙ sym (notes-effect i part m)
+        ∙ ap (λ (es : List Event). notes es m) (sym (readied-slot k defaults present sound fits r i o))
 
     -- an FRS that arrives by a message
     pub frs-runs : (id reason : ℕ) → r ≡ Message (Frs id reason) → (q : Queue) (a : Reply) (cells′ : List ℕ)

@@ -19,18 +19,18 @@ use Rattle.feed.specs.Left.{leftInPlace}
 use Rattle.set_up.proofs.Lent.{lent-take}
 
 -- the first n
-pub lent-numbers : (n k : ℕ) (l : List ℕ) → k ≡ 3 * n → k ≤ length l → statusesIn (take k l) ≡ lentOf n (statusesIn l)
+pub lent-numbers : (n k : ℕ) (l : List ℕ) → k ≡ 4 * n → k ≤ length l → statusesIn (take k l) ≡ lentOf n (statusesIn l)
 lent-numbers n k l e h =
     ap (λ (j : ℕ). statusesIn (take j l)) e ∙ statuses-take n l ∙ sym (lent-take n (statusesIn l) (omega (arith, statuses-length l)))
 
 -- what stands after them doesn't matter
-pub numbers-lent : (n : ℕ) (l m : List ℕ) → length l ≡ 3 * n → lentOf n (statusesIn (l ++ m)) ≡ statusesIn l
+pub numbers-lent : (n : ℕ) (l m : List ℕ) → length l ≡ 4 * n → lentOf n (statusesIn (l ++ m)) ≡ statusesIn l
 numbers-lent n l m e =
-    sym (lent-numbers n (3 * n) (l ++ m) refl (omega (arith, length-append l m))) ∙ ap statusesIn (take-at l m (3 * n) e)
+    sym (lent-numbers n (4 * n) (l ++ m) refl (omega (arith, length-append l m))) ∙ ap statusesIn (take-at l m (4 * n) e)
 
 -- a call that changes the lent numbers in place is a call on the lent statuses
 pub in-place-lent : (setup : Setup) (defaults : List ℕ) (n k : ℕ) (phases : List ℕ) (port : Port) (live cells input answers : List ℕ) (r : FedPort) (lent′ after live′ cells′ answers′ : List ℕ)
-    → k ≡ 3 * n → k ≤ length phases → length lent′ ≡ k
+    → k ≡ 4 * n → k ≤ length phases → length lent′ ≡ k
     → leftInPlace r lent′ live′ cells′ answers′ ≡ feeds setup defaults (heldIn port (take k phases) live cells) input answers
     → _≡_ {A = Left Held}
     (record { number = r .number; consumed = r .consumed; written = r .written; held = held (r .port) (lentOf n (statusesIn (lent′ ++ after))) live′ cells′; answers = answers′ })

@@ -1,5 +1,6 @@
 pub mod Lent
 pub mod Parts
+pub mod Noting
 pub mod Accepting
 pub mod Looping
 pub mod Counts

@@ -98,7 +98,7 @@ fn opens(
     }
 }
 
-// Feed with the table of masks lent, where the statuses are numbers, three to a slot, which are changed in place: a refusal changes nothing.
+// Feed with the table of masks lent, where the statuses are numbers, four to a slot, which are changed in place: a refusal changes nothing.
 pub fn feed_lent(
     table: &Masks,
     setup: Setup,
@@ -208,7 +208,7 @@ pub fn feed(
         };
     }
     let mut phases = in_numbers(statuses);
-    let end = 3 * lent;
+    let end = 4 * lent;
     let fed = feed_in_place(
         setup,
         port,

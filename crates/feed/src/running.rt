@@ -2,11 +2,13 @@
 ghost use mathlib.Core.Path.{_≡_};
 ghost use lib.ListN.{length};
 ghost use Rattle.registers.specs.Rows.{masks};
+ghost use Rattle.readiness.specs.inner.Phases.{momentsIn};
+ghost use Rattle.execute.specs.inner.Lent.{stateIn};
 ghost use Rattle.demand3.specs.Held.{opened};
 ghost use Rattle.demand3.specs.Feeding.{feeds};
 ghost use Rattle.set_up.specs.Lent.{heldIn};
 ghost use Rattle.feed.specs.Left.{leftInPlace};
-ghost use Rattle.feed.specs.inner.Calls.{NotRefused, Completes};
+ghost use Rattle.feed.specs.inner.Calls.{NotRefused, Completes, NotesRecords};
 use crate::FedPort;
 use crate::Turn;
 use crate::choosing::turn_of;
@@ -44,6 +46,8 @@ pub fn run_input(
     requires { ⌜ NotRefused setup (now defaults) (heldIn (opened start) (now phases) (now live) (now cells)) ⌝ }
     ensures { λ r. ⌜ leftInPlace r (now (phases .exit)) (now (live .exit)) (now (cells .exit)) (now (answers .exit))
         ≡ feeds setup (now (defaults .entry)) (heldIn (opened start) (now (phases .entry)) (now (live .entry)) (now (cells .entry))) (now (input .entry)) (now (answers .entry)) ⌝ }
+    ensures { λ _. ⌜ NotesRecords setup (now (defaults .entry)) (stateIn start (now (phases .entry)) (now (live .entry)) (now (cells .entry))) (now (input .entry)) (length (now (answers .entry)))
+        (momentsIn (now (phases .entry))) (momentsIn (now (phases .exit))) ⌝ }
 {
     let mut dev = start;
     let mut earliest = times::nanos_of(0);

@@ -14,7 +14,7 @@ ghost use Rattle.readiness.specs.declared.Status.{Status};
 ghost use Rattle.readiness.specs.declared.Setup.{Setup};
 ghost use Rattle.readiness.specs.declared.Dev.{Dev};
 ghost use Rattle.readiness.specs.Status.{entryOf};
-ghost use Rattle.readiness.specs.inner.Phases.{statusesIn};
+ghost use Rattle.readiness.specs.inner.Phases.{statusesIn, momentsIn};
 ghost use Rattle.readiness.specs.inner.Earliest.{ReadyFrom};
 ghost use Rattle.records.specs.declared.Record.the-variants as variants;
 ghost use Rattle.records.specs.declared.Part.the-variants.{PortAlone, WholeCard};
@@ -22,7 +22,7 @@ ghost use Rattle.records.specs.State.{state};
 ghost use Rattle.records.specs.Answer.{answerBytes};
 ghost use Rattle.records.specs.inner.Parts.{partOf};
 ghost use Rattle.execute.specs.inner.Lent.{stateIn};
-ghost use Rattle.feed.specs.inner.Turns.{TakesTurn};
+ghost use Rattle.feed.specs.inner.Turns.{TakesTurn, NotesTurn};
 use crate::choosing::lowered;
 use decode::gathering::put_answer;
 use execute::answering::answer_bytes;
@@ -42,6 +42,7 @@ use records::Record;
 use records::Reply;
 use records::Request;
 use registers::Masks;
+use settle::phases::note;
 use settle::phases::put_status;
 use settle::phases::status_at;
 use times::Nanos;
@@ -105,6 +106,8 @@ pub fn write_turn(
         → TakesTurn setup (now (defaults .entry)) (stateIn dev (now (phases .entry)) (now (live .entry)) (now (cells .entry))) (variants.Write q value) (now (answers .entry)) at
         (stateIn (r .dev) (now (phases .exit)) (now (live .exit)) (now (cells .exit))) (now (answers .exit))) ⌝ }
     ensures { λ r. ⌜ (ReadyFrom earliest (statusesIn (now (phases .entry))) → ReadyFrom (r .earliest) (statusesIn (now (phases .exit)))) ⌝ }
+    ensures { λ _. ⌜ ((setup : Setup) → setup .slots ≡ slots → entryOf setup (q .slot) ≡ entry → q .slot < slots
+        → NotesTurn setup (now (defaults .entry)) (stateIn dev (now (phases .entry)) (now (live .entry)) (now (cells .entry))) (variants.Write q value) (momentsIn (now (phases .entry))) (momentsIn (now (phases .exit)))) ⌝ }
 {
     let slot = q.slot;
     let status = status_at(phases, slot);
@@ -124,6 +127,8 @@ pub fn write_turn(
         q,
         value,
     );
+    let made = x.made;
+    note(&mut *phases, slot, made);
     answer(answers, at, x.reply);
     let after = x.status;
     put_status(phases, slot, after);
@@ -227,6 +232,8 @@ pub fn card_turn(
         → TakesTurn setup (now (defaults .entry)) (stateIn dev (now (phases .entry)) (now (live .entry)) (now (cells .entry))) «record» (now (answers .entry)) at
         (stateIn (r .dev) (now (phases .exit)) (now (live .exit)) (now (cells .exit))) (now (answers .exit))) ⌝ }
     ensures { λ r. ⌜ ReadyFrom (r .earliest) (statusesIn (now (phases .exit))) ⌝ }
+    ensures { λ _. ⌜ (partOf setup «record» ≡ WholeCard
+        → NotesTurn setup (now (defaults .entry)) (stateIn dev (now (phases .entry)) (now (live .entry)) (now (cells .entry))) «record» (momentsIn (now (phases .entry))) (momentsIn (now (phases .exit)))) ⌝ }
 {
     let x = run_card(
         table,

@@ -2,10 +2,12 @@
 use crate::answers::overwrites_input;
 use crate::help::help;
 use crate::options::Options;
+use crate::options::is_replay;
 use crate::options::is_run;
 use crate::options::is_sheet;
 use crate::options::options_given;
 use crate::run::run;
+use crate::scoring::score_command;
 use cli_arguments::arguments::arg_count;
 use cli_arguments::arguments::arg_is;
 use cli_arguments::arguments::bad_usage;
@@ -15,6 +17,7 @@ use cli_card::card_file::load_card;
 use cli_card::card_shown::show_card;
 use cli_io::files::close_file;
 use cli_io::files::open_file;
+use cli_lateness::seen_file::load_seen;
 use cli_sheet::code_shown::code_command;
 use cli_sheet::sheet_shown::SheetCall;
 use cli_sheet::sheet_shown::sheet_command;
@@ -114,6 +117,22 @@ fn run_card(card: Loaded, words: &[u32], o: Options) -> Outcome {
     outcome
 }
 
+// Reads the seen times first, where their file is named.
+fn run_seen(card: Loaded, words: &[u32], o: Options) -> Outcome {
+    if o.seen == 0 {
+        return run_card(card, words, o);
+    }
+    let setup = card.setup;
+    let file = load_seen(o.seen, setup.slots);
+    if !file.good {
+        return file.outcome;
+    }
+    let times = file.times;
+    let mut p = o;
+    p.times = times;
+    run_card(card, words, p)
+}
+
 // Runs a trace, or replays a capture.
 fn run_options(o: Options) -> Outcome {
     if overwrites_input(o) {
@@ -122,7 +141,7 @@ fn run_options(o: Options) -> Outcome {
     let mut words = [0u32; 2048];
     let loaded = load_card(o.card, &mut words);
     if loaded.good {
-        return run_card(loaded, &words, o);
+        return run_seen(loaded, &words, o);
     }
     loaded.outcome
 }
@@ -137,8 +156,10 @@ fn run_command() -> Outcome {
 
 fn replay_command() -> Outcome {
     let mut o = options_given();
-    if !is_run(o) {
-        return bad_usage(b"replay wants CARD and CAPTURE, and takes --quiet and --answers FILE");
+    if !is_replay(o) {
+        return bad_usage(
+            b"replay wants CARD and CAPTURE, and takes --quiet, --answers FILE and --seen FILE",
+        );
     }
     o.capture = true;
     run_options(o)
@@ -153,6 +174,9 @@ fn file_command() -> Outcome {
     if arg_is(1, b"replay") {
         return replay_command();
     }
+    if arg_is(1, b"score") {
+        return score_command();
+    }
     if arg_is(1, b"card") {
         return card_command();
     }
@@ -165,7 +189,9 @@ fn file_command() -> Outcome {
     if arg_is(1, b"pack") {
         return pack_command();
     }
-    bad_usage(b"unknown command: expected run, replay, card, sheet, code, show, pack or message")
+    bad_usage(
+        b"unknown command: expected run, replay, score, card, sheet, code, show, pack or message",
+    )
 }
 
 pub fn command() -> Outcome {

@@ -23,6 +23,7 @@ fn help_commands() {
         b"                         (FILE is emptied once the card is set up; it can't be the card or the trace)\n",
     );
     help_replay();
+    help_score();
     say(b"  otsnebura card CARD    the card with each time code in ns\n");
     help_sheets();
     say(b"  otsnebura show TRACE   the records of a trace in words\n");
@@ -37,11 +38,24 @@ fn help_commands() {
 }
 
 fn help_replay() {
-    say(b"  otsnebura replay CARD CAPTURE [--quiet] [--answers FILE]\n");
+    say(b"  otsnebura replay CARD CAPTURE [--quiet] [--answers FILE] [--seen SEEN]\n");
     say(
         b"                         the same for a capture: a line for each record, and for each advance that its\n",
     );
     say(b"                         stamps stand for; FILE can't be the card or the capture\n");
+    say(
+        b"                         --seen SEEN: after the end, when each slot was made Ready and when the lab saw it, in ns\n",
+    );
+}
+
+fn help_score() {
+    say(b"  otsnebura score CARD CAPTURE SEEN [CAPTURE SEEN ..] [--csv FILE]\n");
+    say(
+        b"                         how late the card was: each capture replayed, a line for each slot, and totals by slot\n",
+    );
+    say(
+        b"                         and in all; --csv FILE: the lines as comma-separated values, in ns; FILE can't be an input\n",
+    );
 }
 
 fn help_sheets() {
@@ -106,6 +120,13 @@ fn help_sheet() {
     );
 }
 
+fn help_seen() {
+    say(b"SEEN is text, one slot a line, one space between, and 0Ah after each line:\n\n");
+    say(
+        b"  slot time unit                    when the lab first saw the slot answer, from set-up on, in decimal; unit ns, us or ms\n\n",
+    );
+}
+
 fn help_end() -> i32 {
     say(
         b"Exit status: 0 done; 1 refused, or a broken or cut trace or capture; 2 bad usage, or a file that can't be read or written.\n",
@@ -118,6 +139,7 @@ pub fn help() -> Outcome {
     help_capture();
     help_card();
     help_sheet();
+    help_seen();
     let error = after_printing(help_end());
     unless_error(error, Outcome::Done)
 }

@@ -9,3 +9,4 @@ pub mod AtTheEnd
 pub mod TwoAdvances
 pub mod Bounds
 pub mod PhaseNumbers
+pub mod KeptMoments

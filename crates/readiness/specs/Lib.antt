@@ -4,4 +4,5 @@ pub mod Status
 pub mod Root
 pub mod Events
 pub mod Settle
+pub mod MadeReady
 pub mod inner

@@ -5,6 +5,7 @@ ghost use mathlib.Core.Path.{_≡_};
 ghost use lib.ListN.{replicate};
 ghost use Rattle.readiness.specs.Blank.{blankControl, blankQueue, blankDev, blankSlot, blankSetup};
 ghost use Rattle.readiness.specs.Status.{down};
+ghost use Rattle.readiness.specs.MadeReady.{noMoments};
 use frs_queue::Queue;
 use frs_queue::Tally;
 use times::Code;
@@ -68,9 +69,23 @@ pub struct RootPort {
     pub tally: Tally,
 }
 
+// A moment of the bench's clock, or none.
+pub enum Moment {
+    Never,
+    At(Nanos),
+}
+
+// One slot that has settled: when it became Ready then, if it did.
 pub struct SlotSettled {
     pub status: Status,
     pub port: RootPort,
+    pub made: Moment,
+}
+
+// For each of 32 slots the moment, in nanoseconds, at which it was last made Ready; a bit of `made` says for each slot whether there is one.
+pub struct Moments {
+    pub made: u32,
+    pub at_ns: [u64; 32],
 }
 
 // ---- Blank values: every number 0, every bit off, every slot Down
@@ -138,4 +153,14 @@ pub fn all_down() -> [Status; 32]
     ensures { λ r. ⌜ r ≡ replicate 32 down ⌝ }
 {
     [Status { phase: Phase::Down }; 32]
+}
+
+// No slot was made Ready.
+pub fn no_moments() -> Moments
+    ensures { λ r. ⌜ r ≡ noMoments ⌝ }
+{
+    Moments {
+        made: 0,
+        at_ns: [0; 32],
+    }
 }

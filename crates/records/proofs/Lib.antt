@@ -18,6 +18,7 @@ pub mod Queued
 pub mod Edges
 pub mod Counts
 pub mod Parted
+pub mod Readying
 pub mod Stays
 pub mod EachKind
 pub mod QueueKept

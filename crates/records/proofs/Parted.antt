@@ -1,7 +1,7 @@
 -- A record by the part of the state that it touches: on a sound state, running it is running it on that part alone, put back.
 use Prim.Native.Nat.{ℕ, _/_, _%_, _<_}
 use native.Mathlib.Omega.{arith}
-use mathlib.Core.Path.{_≡_, refl, ap, sym, _∙_}
+use mathlib.Core.Path.{_≡_, refl, ap, sym, _∙_, subst}
 use mathlib.Core.Bool.{Bool, true, false, not, _||_, cond, false≢true}
 use mathlib.Core.List.{List}
 use lib.Dec.{eqb, ltb}
@@ -241,75 +241,86 @@ module _ (setup : Setup) (s : State) (rests : Resting setup (s .port .clock) (s 
       ap (λ (x : Scene). record { after = withLive x (y .live); reply = reply completion.Done (x .root .tally) v })
       (settle-one setup (s .statuses) i (y .status) (record { dev = y .dev; cells = y .cells; tally = tally }) l (ap isReady (h .0)) (r .due) (r .drs))
 
+-- ---- what a record does is what it does to its part
+
+-- one slot, which the card has
+pub effect-slot : (setup : Setup) (defaults : List ℕ) (s : State) (r : Record) (i : ℕ) → partOf setup r ≡ OneSlot i
+    → (let e = slotEffect (setup .slots) (slotKind setup i) (entryOf setup i) defaults r (seatOf s i) in
+    (i < setup .slots) × SlotDoes (seatOf s i) e × (effect setup defaults s r ≡ atSlot s i e))
+unfolding effect slotEffect
+effect-slot setup defaults s r i =
+    at-one-slot P setup i
+    (λ q l e. subst (λ (j : ℕ). Part j (Read q)) e (l, read-does (setup .slots) (slotKind setup (q .slot)) (seatOf s (q .slot)) q, refl))
+    (λ q value l e. subst (λ (j : ℕ). Part j (Write q value)) e (l, write-does (setup .slots) (slotKind setup (q .slot)) (seatOf s (q .slot)) (entryOf setup (q .slot)) defaults q value, refl))
+    (λ slot word mask l e. subst (λ (j : ℕ). Part j (HardwareSet slot word mask)) e (l, set-does (setup .slots) (slotKind setup slot) (seatOf s slot) slot word mask, refl))
+    r
+  where
+    Part : ℕ → Record → Type 0
+    Part j r =
+        let e = slotEffect (setup .slots) (slotKind setup j) (entryOf setup j) defaults r (seatOf s j) in
+        (j < setup .slots) × SlotDoes (seatOf s j) e × (effect setup defaults s r ≡ atSlot s j e)
+
+    P : Record → Type 0
+    P r = Part i r
+
+-- no slot
+pub effect-port : (setup : Setup) (defaults : List ℕ) (s : State) (r : Record) → partOf setup r ≡ PortAlone → effect setup defaults s r ≡ atPort s (portEffect (setup .«port_id») r (frontOf s))
+unfolding effect portEffect
+effect-port setup defaults s (MessageRecord m) e = refl
+effect-port setup defaults s ReadQueue e = refl
+effect-port setup defaults s RemoveOldest e = refl
+effect-port setup defaults s (ClearBits mask) e = refl
+effect-port setup defaults s (Control b) e = refl
+effect-port setup defaults s ReadBits e = refl
+effect-port setup defaults s NoKind e = refl
+effect-port setup defaults s (Read q) e = ap (atSlot s (q .slot)) (no-slot-read (setup .slots) (slotKind setup (q .slot)) (seatOf s (q .slot)) q (at-port setup (q .slot) e))
+effect-port setup defaults s (Write q value) e =
+    ap (atSlot s (q .slot)) (no-slot-write (setup .slots) (slotKind setup (q .slot)) (seatOf s (q .slot)) (entryOf setup (q .slot)) defaults q value (at-port setup (q .slot) e))
+effect-port setup defaults s (HardwareSet slot word mask) e =
+    ap (atSlot s slot) (no-slot-set (setup .slots) (slotKind setup slot) (seatOf s slot) slot word mask (at-port setup slot e))
+effect-port setup defaults s (Advance by) e = card-not-port e
+effect-port setup defaults s LinkUp e = card-not-port e
+effect-port setup defaults s LinkDown e = card-not-port e
+effect-port setup defaults s ColdReset e = card-not-port e
+
+-- every slot
+pub effect-card : (setup : Setup) (defaults : List ℕ) (s : State) (r : Record) → partOf setup r ≡ WholeCard → effect setup defaults s r ≡ cardEffect setup defaults r s
+unfolding effect cardEffect
+effect-card setup defaults s (Advance by) e = refl
+effect-card setup defaults s LinkUp e = refl
+effect-card setup defaults s LinkDown e = refl
+effect-card setup defaults s ColdReset e = refl
+effect-card setup defaults s (Read q) e = at-no-card setup (q .slot) e
+effect-card setup defaults s (Write q value) e = at-no-card setup (q .slot) e
+effect-card setup defaults s (HardwareSet slot word mask) e = at-no-card setup slot e
+effect-card setup defaults s (MessageRecord m) e = card-not-port (sym e)
+effect-card setup defaults s ReadQueue e = card-not-port (sym e)
+effect-card setup defaults s RemoveOldest e = card-not-port (sym e)
+effect-card setup defaults s (ClearBits mask) e = card-not-port (sym e)
+effect-card setup defaults s (Control b) e = card-not-port (sym e)
+effect-card setup defaults s ReadBits e = card-not-port (sym e)
+effect-card setup defaults s NoKind e = card-not-port (sym e)
+
 -- ---- the three parts
 
 module _ (setup : Setup) (defaults : List ℕ) (s : State) (good : Sound setup s) (fits : Fitting setup defaults s) where
-  -- a record at slot i, which the card has
-  slot-part : (i : ℕ) → i < setup .slots → (r : Record) → SlotDoes (seatOf s i) (slotEffect (setup .slots) (slotKind setup i) (entryOf setup i) defaults r (seatOf s i))
-      → effect setup defaults s r ≡ atSlot s i (slotEffect (setup .slots) (slotKind setup i) (entryOf setup i) defaults r (seatOf s i))
-      → run setup defaults s r ≡ slotPut s i (slotRun (setup .slots) (slotKind setup i) (setup .bus) (entryOf setup i) defaults i r (seatOf s i))
-  unfolding run slotRun
-  slot-part i h r d e =
-      ap (answered setup s) e
-      ∙ slot-answers setup s (sound-rests setup defaults s good fits) i (let l = fits .slots in omega arith) _ d
-
   -- A RECORD THAT TOUCHES ONE SLOT, which the card has, is run by that slot's status, the port and the lent words alone.
   pub run-slot : (r : Record) (i : ℕ) → partOf setup r ≡ OneSlot i
       → run setup defaults s r ≡ slotPut s i (slotRun (setup .slots) (slotKind setup i) (setup .bus) (entryOf setup i) defaults i r (seatOf s i))
-  unfolding effect slotEffect
-  run-slot r i =
-      at-one-slot (λ r. run setup defaults s r ≡ slotPut s i (slotRun (setup .slots) (slotKind setup i) (setup .bus) (entryOf setup i) defaults i r (seatOf s i)))
-      setup i
-      (λ q l e. rw (sym e) (slot-part (q .slot) l (Read q) (read-does (setup .slots) (slotKind setup (q .slot)) (seatOf s (q .slot)) q) refl))
-      (λ q value l e.
-      rw (sym e)
-      (slot-part (q .slot) l (Write q value)
-      (write-does (setup .slots) (slotKind setup (q .slot)) (seatOf s (q .slot)) (entryOf setup (q .slot)) defaults q value) refl))
-      (λ slot word mask l e.
-      rw (sym e) (slot-part slot l (HardwareSet slot word mask) (set-does (setup .slots) (slotKind setup slot) (seatOf s slot) slot word mask) refl))
-      r
-
-  port-part : (r : Record) → effect setup defaults s r ≡ atPort s (portEffect (setup .«port_id») r (frontOf s))
-      → run setup defaults s r ≡ portPut s (portRun (setup .«port_id») r (frontOf s))
-  unfolding run portRun
-  port-part r e = ap (answered setup s) e ∙ port-answers setup s (sound-rests setup defaults s good fits) _ (port-does (setup .«port_id») r (frontOf s))
+  unfolding run slotRun
+  run-slot r i e =
+      let p = effect-slot setup defaults s r i e in
+      ap (answered setup s) (p .2)
+      ∙ slot-answers setup s (sound-rests setup defaults s good fits) i (omega (arith, fits .slots, p .0)) _ (p .1)
 
   -- A RECORD THAT TOUCHES NO SLOT is run by the port alone.
   pub run-port : (r : Record) → partOf setup r ≡ PortAlone → run setup defaults s r ≡ portPut s (portRun (setup .«port_id») r (frontOf s))
-  unfolding effect portEffect
-  run-port (MessageRecord m) e = port-part (MessageRecord m) refl
-  run-port ReadQueue e = port-part ReadQueue refl
-  run-port RemoveOldest e = port-part RemoveOldest refl
-  run-port (ClearBits mask) e = port-part (ClearBits mask) refl
-  run-port (Control b) e = port-part (Control b) refl
-  run-port ReadBits e = port-part ReadBits refl
-  run-port NoKind e = port-part NoKind refl
-  run-port (Read q) e =
-      port-part (Read q) (ap (atSlot s (q .slot)) (no-slot-read (setup .slots) (slotKind setup (q .slot)) (seatOf s (q .slot)) q (at-port setup (q .slot) e)))
-  run-port (Write q value) e =
-      port-part (Write q value)
-      (ap (atSlot s (q .slot)) (no-slot-write (setup .slots) (slotKind setup (q .slot)) (seatOf s (q .slot)) (entryOf setup (q .slot)) defaults q value (at-port setup (q .slot) e)))
-  run-port (HardwareSet slot word mask) e =
-      port-part (HardwareSet slot word mask) (ap (atSlot s slot) (no-slot-set (setup .slots) (slotKind setup slot) (seatOf s slot) slot word mask (at-port setup slot e)))
-  run-port (Advance by) e = card-not-port e
-  run-port LinkUp e = card-not-port e
-  run-port LinkDown e = card-not-port e
-  run-port ColdReset e = card-not-port e
+  unfolding run portRun
+  run-port r e =
+      ap (answered setup s) (effect-port setup defaults s r e)
+      ∙ port-answers setup s (sound-rests setup defaults s good fits) _ (port-does (setup .«port_id») r (frontOf s))
 
 -- A RECORD THAT TOUCHES EVERY SLOT is run on the whole card, in any state.
 pub run-card : (setup : Setup) (defaults : List ℕ) (s : State) (r : Record) → partOf setup r ≡ WholeCard → run setup defaults s r ≡ cardRun setup defaults r s
-unfolding run cardRun effect cardEffect
-run-card setup defaults s (Advance by) e = refl
-run-card setup defaults s LinkUp e = refl
-run-card setup defaults s LinkDown e = refl
-run-card setup defaults s ColdReset e = refl
-run-card setup defaults s (Read q) e = at-no-card setup (q .slot) e
-run-card setup defaults s (Write q value) e = at-no-card setup (q .slot) e
-run-card setup defaults s (HardwareSet slot word mask) e = at-no-card setup slot e
-run-card setup defaults s (MessageRecord m) e = card-not-port (sym e)
-run-card setup defaults s ReadQueue e = card-not-port (sym e)
-run-card setup defaults s RemoveOldest e = card-not-port (sym e)
-run-card setup defaults s (ClearBits mask) e = card-not-port (sym e)
-run-card setup defaults s (Control b) e = card-not-port (sym e)
-run-card setup defaults s ReadBits e = card-not-port (sym e)
-run-card setup defaults s NoKind e = card-not-port (sym e)
+unfolding run cardRun
+run-card setup defaults s r e = ap (answered setup s) (effect-card setup defaults s r e)

@@ -6,6 +6,7 @@ use frs_queue::Tally;
 use messages::Message;
 use readiness::Cause;
 use readiness::Dev;
+use readiness::Moment;
 use readiness::Setup;
 use readiness::Slot;
 use readiness::Status;
@@ -106,11 +107,12 @@ pub enum Part {
     WholeCard,
 }
 
-// What a record leaves that touches one slot, beside the lent slices.
+// What a record leaves that touches one slot, beside the lent slices, and when it made that slot Ready, if it did.
 pub struct SlotDone {
     pub dev: Dev,
     pub status: Status,
     pub reply: Reply,
+    pub made: Moment,
 }
 
 // What a record leaves that touches no slot.

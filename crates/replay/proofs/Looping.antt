@@ -17,32 +17,38 @@ use Rattle.trace.proofs.Records.{carrying}
 use Rattle.trace.proofs.Loop.{end-few}
 use Rattle.readiness.specs.declared.Status.{Status}
 use Rattle.readiness.specs.declared.Setup.{Setup}
+use Rattle.readiness.specs.declared.Moment.{Moment}
+use Rattle.readiness.specs.inner.Phases.{notes, momentsWith}
+use Rattle.readiness.proofs.KeptMoments.{notes-length}
 use Rattle.readiness.specs.declared.Dev.{Dev}
 use Rattle.records.specs.State.{State, state}
 use Rattle.records.specs.Device.{device}
+use Rattle.records.specs.MadeReady.{readiedOver}
 use Rattle.capture.specs.declared.Replay.{Replay}
 use Rattle.capture.specs.Replay.{Progress, Replayed, begins, still, later, replayOpen}
 use Rattle.capture.specs.Lent.{progressIn, replayOf, leaves}
+use Rattle.capture.specs.Noting.{notingKeep}
 use Rattle.capture.proofs.Steps.{tookKind, later-zero, later-later}
 use Rattle.capture.proofs.Wholes.{runs-eight}
-use Rattle.demand3.specs.Held.{held, opened, heldOf}
+use Rattle.demand3.specs.Held.{held, opened}
 use Rattle.demand3.specs.Feeding.{bench}
 use Rattle.demand3.proofs.Good.{Good}
-use Rattle.replay_rules.specs.Replaying.{HeldWith, heldWith}
+use Rattle.replay_rules.specs.KeepingMoments.{notesIn, notingBench, HeldNoting, heldNoting}
 use Rattle.replay_state.specs.inner.Moves.{Tidy}
 use Rattle.replay.specs.declared.Step.{Step}
 use Rattle.replay.specs.declared.Stretch.{Stretch}
 use Rattle.replay.specs.declared.ReplayedPort.{ReplayedPort}
+use Rattle.replay.specs.inner.Noted.{Noted, notingDevice, notedWith}
 use Rattle.replay.specs.inner.Steps.{stepOf}
 use Rattle.replay.specs.inner.Calls.{Between, tookKindOf, endsAt, endsLeft}
 use Rattle.replay.specs.inner.Stretches.{WrittenOut, endOf, Follows}
 use Rattle.replay.proofs.NextStep.{take-few, leftAt, endAt, Halts, does-step}
-use Rattle.replay.proofs.Feeding.{good-runs}
+use Rattle.replay.proofs.Feeding.{good-runs, runs-noted}
 
 -- what is left of a call, with the statuses as a list
-abbrev pub leftOf : ReplayedPort → (statuses : List Status) (live cells answers : List ℕ) → Left HeldWith
-leftOf x statuses live cells answers =
-    record { number = x .number; consumed = x .consumed; written = x .written; held = heldWith (held (x .port) statuses live cells) (x .replay); answers = answers }
+abbrev pub leftOf : List Moment → ReplayedPort → (statuses : List Status) (moments live cells answers : List ℕ) → Left HeldNoting
+leftOf kept x statuses moments live cells answers =
+    record { number = x .number; consumed = x .consumed; written = x .written; held = heldNoting (held (x .port) statuses live cells) (momentsWith kept moments) (x .replay); answers = answers }
 
 -- where the kind byte is consumed, its stamp is the earlier one
 took-by : (r : Replay) → Tidy r → (t : Bool) → (if t then r else replayOf (begins (progressIn r))) ≡ replayOf (if t then progressIn r else begins (progressIn r))
@@ -52,43 +58,47 @@ took-by r e false = refl
 took : (r : Replay) → Tidy r → (m : ℕ) → tookKindOf r (m - 0) ≡ replayOf (tookKind (progressIn r) m)
 took r e m = ap (tookKindOf r) (sub-zero m) ∙ took-by r e (eqb m 0)
 
--- the call began in the state s₀, with q₀ in hand and nothing carried; `room` is the slice for answers as it was lent
-module _ (k : Setup) (defaults : List ℕ) (input room : List ℕ) (s₀ : State) (q₀ : Progress) where
-  abbrev D : Device State
-  D = device k defaults
+-- the call began in the state s₀, with the moments m₀ in its numbers, with q₀ in hand and nothing carried; `room` is the slice for answers as it was lent
+module _ (k : Setup) (defaults : List ℕ) (input room : List ℕ) (s₀ : State) (m₀ : List ℕ) (q₀ : Progress) where
+  abbrev D : Device Noted
+  D = notingDevice k defaults
 
-  abbrev pub call : Replayed State
-  call = replayOpen D (carrying s₀ []) q₀ (length room) input
+  abbrev pub call : List Moment → Replayed Noted
+  call kept = replayOpen D (carrying (notedWith kept s₀ m₀) []) q₀ (length room) input
 
   -- at the head, with `at` bytes consumed and w bytes written
-  pub record Head (answers : List ℕ) (dev : Dev) (statuses : List Status) (live cells : List ℕ) (r : Replay) (at w : ℕ) : Type 0 where
+  pub record Head (answers : List ℕ) (dev : Dev) (statuses : List Status) (moments live cells : List ℕ) (r : Replay) (at w : ℕ) : Type 0 where
     pub good : Good k defaults s₀ (state dev statuses live cells)
+    pub many : length moments ≡ length statuses
     pub bytes : Bytes input
     pub at-in : at ≤ length input
     pub w-in : w ≤ length room
     pub long : length answers ≡ length room
     pub between : Between r
-    pub so-far : call ≡ later at (take w answers) (replayOpen D (carrying (state dev statuses live cells) []) (progressIn r) (length room - w) (drop at input))
+    pub so-far : (kept : List Moment)
+        → call kept ≡ later at (take w answers) (replayOpen D (carrying (notedWith kept (state dev statuses live cells) moments) []) (progressIn r) (length room - w) (drop at input))
     pub beyond : drop w answers ≡ drop w room
 
   -- AT THE START
-  pub starts : Good k defaults s₀ s₀ → Bytes input → (r : Replay) → Between r → progressIn r ≡ q₀ → Head room (s₀ .port) (s₀ .statuses) (s₀ .live) (s₀ .cells) r 0 0
-  starts g b r t e =
+  pub starts : Good k defaults s₀ s₀ → length m₀ ≡ length (s₀ .statuses) → Bytes input → (r : Replay) → Between r → progressIn r ≡ q₀
+      → Head room (s₀ .port) (s₀ .statuses) m₀ (s₀ .live) (s₀ .cells) r 0 0
+  starts g n b r t e =
       record {
         good = g;
+        many = n;
         bytes = b;
         at-in = omega arith;
         w-in = omega arith;
         long = refl;
         between = t;
         so-far =
-            (λ i. replayOpen D (carrying s₀ []) (sym e i) (sym (sub-zero (length room)) i) input)
-            ∙ sym (later-zero (replayOpen D (carrying s₀ []) (progressIn r) (length room - 0) input));
+            λ kept. (λ i. replayOpen D (carrying (notedWith kept s₀ m₀) []) (sym e i) (sym (sub-zero (length room)) i) input)
+            ∙ sym (later-zero (replayOpen D (carrying (notedWith kept s₀ m₀) []) (progressIn r) (length room - 0) input));
         beyond = refl;
       }
 
-module _ {k : Setup} {defaults input room : List ℕ} {s₀ : State} {q₀ : Progress} {answers : List ℕ} {dev : Dev} {statuses : List Status} {live cells : List ℕ} {r : Replay} {at w : ℕ}
-    (v : Head k defaults input room s₀ q₀ answers dev statuses live cells r at w) where
+module _ {k : Setup} {defaults input room : List ℕ} {s₀ : State} {m₀ : List ℕ} {q₀ : Progress} {answers : List ℕ} {dev : Dev} {statuses : List Status} {moments live cells : List ℕ} {r : Replay} {at w : ℕ}
+    (v : Head k defaults input room s₀ m₀ q₀ answers dev statuses moments live cells r at w) where
   abbrev present : State
   present = state dev statuses live cells
 
@@ -119,7 +129,8 @@ module _ {k : Setup} {defaults input room : List ℕ} {s₀ : State} {q₀ : Pro
     pub fits : w + x .answers ≤ length answers
     fits = omega (arith, v .w-in, v .long, written .room)
 
-    module _ (dev′ : Dev) (statuses′ : List Status) (live′ cells′ new : List ℕ) (is : _≡_ {A = Ran State} (record { state = state dev′ statuses′ live′ cells′; answer = new }) ran) where
+    module _ (dev′ : Dev) (statuses′ : List Status) (moments′ live′ cells′ new : List ℕ) (is : _≡_ {A = Ran State} (record { state = state dev′ statuses′ live′ cells′; answer = new }) ran)
+        (notes-all : moments′ ≡ notes (readiedOver k defaults present (written .records)) moments) where
       many : length new ≡ x .answers
       many = ap (λ (u : Ran State). length (u .answer)) is ∙ runs-eight (device k defaults) present (written .records) ∙ sym (written .eight)
 
@@ -132,29 +143,44 @@ module _ {k : Setup} {defaults input room : List ℕ} {s₀ : State} {q₀ : Pro
           sym (append-assoc (take w answers) new (drop (w + x .answers - w) (drop w answers)))
           ∙ ap (λ (l : List ℕ). (take w answers ++ new) ++ l) (drop-drop (w + x .answers - w) w answers ∙ ap (λ (n : ℕ). drop n answers) e)
 
-      pub stretched : Head k defaults input room s₀ q₀ (slice new) dev′ statuses′ live′ cells′ (x .replay) (x .at) (w + x .answers)
+      after : Good k defaults s₀ (state dev′ statuses′ live′ cells′)
+      after =
+          subst (Good k defaults s₀) (sym (ap (λ (u : Ran State). u .state) is)) (good-runs k defaults s₀ present (written .records) (written .wholes) (subst Bytes (written .joined) (written .areBytes)) (v .good))
+
+      -- the records run on the bench that notes
+      noted-so : (kept : List Moment) → _≡_ {A = Ran Noted}
+          (record { state = notedWith kept (state dev′ statuses′ live′ cells′) moments′; answer = new })
+          (runs (notingDevice k defaults) (notedWith kept present moments) (written .records))
+      noted-so kept =
+          runs-noted k defaults s₀ present (written .records) (written .wholes) (subst Bytes (written .joined) (written .areBytes)) (v .good) moments (v .many ∙ v .good .kept .statuses) (state dev′ statuses′ live′ cells′) moments′ new is notes-all kept
+
+      pub stretched : Head k defaults input room s₀ m₀ q₀ (slice new) dev′ statuses′ moments′ live′ cells′ (x .replay) (x .at) (w + x .answers)
       stretched =
-          let D = device k defaults in
+          let D = notingDevice k defaults in
           let o = written in
-          let t = state dev′ statuses′ live′ cells′ in
           let rest = drop (x .at) input in
           let n : space - x .answers ≡ length room - (w + x .answers) = omega (arith, v .long) in
           let m : at + (x .at - at) ≡ x .at = omega (arith, o .from) in
           let tw : take (w + x .answers) (slice new) ≡ take w answers ++ new = ap (take (w + x .answers)) apart ∙ take-at (take w answers ++ new) (drop (w + x .answers) answers) (w + x .answers) front in
           record {
-            good = subst (Good k defaults s₀) (sym (ap (λ (u : Ran State). u .state) is)) (good-runs k defaults s₀ present (o .records) (o .wholes) (subst Bytes (o .joined) (o .areBytes)) (v .good));
+            good = after;
+            many = ap length notes-all ∙ notes-length (readiedOver k defaults present (o .records)) moments ∙ v .many ∙ v .good .kept .statuses ∙ sym (after .kept .statuses);
             bytes = v .bytes;
             at-in = o .to;
             w-in = omega (arith, fits, v .long);
             long = ap length apart ∙ omega (arith, length-append (take w answers ++ new) (drop (w + x .answers) answers), front, length-drop (w + x .answers) answers, fits, v .long);
             between = f .runs some .0;
             so-far =
-                v .so-far
-                ∙ ap (λ (j : ℕ). later at (take w answers) (replayOpen D (carrying present []) (progressIn r) j (drop at input))) (sym same-room)
-                ∙ ap (later at (take w answers)) (o .goes k defaults present)
-                ∙ later-later at (x .at - at) (take w answers) (ran .answer) (replayOpen D (carrying (ran .state) []) (progressIn (x .replay)) (space - x .answers) rest)
-                ∙ (λ i. later (m i) (take w answers ++ sym is i .answer) (replayOpen D (carrying (sym is i .state) []) (progressIn (x .replay)) (n i) rest))
-                ∙ ap (λ (l : List ℕ). later (x .at) l (replayOpen D (carrying t []) (progressIn (x .replay)) (length room - (w + x .answers)) rest)) (sym tw);
+                λ kept.
+                let s = notedWith kept present moments in
+                let y = runs D s (o .records) in
+                let e = noted-so kept in
+                v .so-far kept
+                ∙ ap (λ (j : ℕ). later at (take w answers) (replayOpen D (carrying s []) (progressIn r) j (drop at input))) (sym same-room)
+                ∙ ap (later at (take w answers)) (o .goes k defaults s)
+                ∙ later-later at (x .at - at) (take w answers) (y .answer) (replayOpen D (carrying (y .state) []) (progressIn (x .replay)) (space - x .answers) rest)
+                ∙ (λ i. later (m i) (take w answers ++ sym e i .answer) (replayOpen D (carrying (sym e i .state) []) (progressIn (x .replay)) (n i) rest))
+                ∙ ap (λ (l : List ℕ). later (x .at) l (replayOpen D (carrying (notedWith kept (state dev′ statuses′ live′ cells′) moments′) []) (progressIn (x .replay)) (length room - (w + x .answers)) rest)) (sym tw);
             beyond =
                 ap (drop (w + x .answers)) apart
                 ∙ drop-at (take w answers ++ new) (drop (w + x .answers) answers) (w + x .answers) front
@@ -164,56 +190,65 @@ module _ {k : Setup} {defaults input room : List ℕ} {s₀ : State} {q₀ : Pro
           }
 
   -- THE CALL'S END: after `at` and w it comes to f, with no more answers
-  finish : (f : Replayed State) (x : ReplayedPort) → call k defaults input room s₀ q₀ ≡ later at (take w answers) f → f .answers ≡ []
-      → x .number ≡ f .number → x .consumed ≡ at + f .consumed → x .written ≡ w
-      → _≡_ {A = HeldWith} (heldWith (held (x .port) statuses live cells) (x .replay)) (record { port = heldOf (f .bench); replay = replayOf (f .progress) })
-      → leftOf x statuses live cells answers ≡ leaves (bench k defaults) (call k defaults input room s₀ q₀) room
-  finish f x e none n c u h =
-      let tw : length (take w answers) ≡ w = length-take-le w answers (omega (arith, v .long, v .w-in)) in
-      let a : take w answers ++ f .answers ≡ take w answers = ap (λ (l : List ℕ). take w answers ++ l) none ∙ append-nil (take w answers) in
-      let l : length (take w answers ++ f .answers) ≡ w = ap length a ∙ tw in
-      let y : answers ≡ (take w answers ++ f .answers) ++ drop (length (take w answers ++ f .answers)) room =
-      sym (take-append-drop w answers) ∙ (λ i. sym a i ++ (v .beyond ∙ ap (λ (j : ℕ). drop j room) (sym l)) i) in
-      _∙_ {A = Left HeldWith}
-      (λ i. record { number = n i; consumed = c i; written = (u ∙ sym l) i; held = h i; answers = y i })
-      (ap (λ (g : Replayed State). leaves (bench k defaults) g room) (sym e))
+  module _ (kept : List Moment) where
+    abbrev whole : Replayed Noted
+    whole = call k defaults input room s₀ m₀ q₀ kept
 
-  ends-so : step .runs ≡ false → call k defaults input room s₀ q₀ ≡ later at (take w answers) (later (step .at - at) [] (endAt input (v .bytes) (progressIn r) space at present step))
-  ends-so e =
-      v .so-far
-      ∙ ap (λ (j : ℕ). later at (take w answers) (replayOpen (device k defaults) (carrying present []) (progressIn r) j (drop at input))) (sym same-room)
-      ∙ ap (later at (take w answers)) (ends e .goes k defaults present)
+    abbrev here : Noted
+    here = notedWith kept present moments
 
-  -- with a number of its own
-  stopped : step .runs ≡ false → eqb (step .number) 0 ≡ false
-      → leftOf (record { number = step .number; consumed = step .at; written = w; port = opened dev; replay = step .replay }) statuses live cells answers
-      ≡ leaves (bench k defaults) (call k defaults input room s₀ q₀) room
-  stopped e z =
-      let f = still (step .number) (carrying present []) (progressIn (step .replay)) [] in
-      let c : step .at ≡ at + (step .at - at + 0) = omega (arith, ends e .from) in
-      finish (later (step .at - at) [] f) _
-      (ends-so e ∙ ap (λ (g : Replayed State). later at (take w answers) (later (step .at - at) [] g)) (if-false (eqb (step .number) 0) _ f z))
-      refl refl c refl (λ i. heldWith (held (opened dev) statuses live cells) (ends e .tidy i))
+    abbrev given : ReplayedPort → Left HeldNoting
+    given x = leftOf kept x statuses moments live cells answers
 
-  -- or what is left begins a record, or none
-  left-over : step .runs ≡ false → eqb (step .number) 0 ≡ true
-      → leftOf (endsLeft dev (endOf step) input w) statuses live cells answers ≡ leaves (bench k defaults) (call k defaults input room s₀ q₀) room
-  left-over e z =
-      let rest = drop (step .at) input in
-      let m = endCount rest (next rest) in
-      let f = leftAt input (v .bytes) (progressIn r) space at present step in
-      let c : step .at + (m - 0) ≡ at + (step .at - at + m) = omega (arith, ends e .from) in
-      let l : m ≡ length (take m rest) = sym (length-take-le m rest (end-few rest .1)) in
-      finish (later (step .at - at) [] f) _
-      (ends-so e ∙ ap (λ (g : Replayed State). later at (take w answers) (later (step .at - at) [] g)) (if-true (eqb (step .number) 0) f _ z))
-      refl refl c refl
-      (λ i. heldWith (held (record { dev = dev; carried = pad 16 (take m rest); «carried_len» = l i; broken = eqb (endNumber (next rest)) 31 }) statuses live cells)
-      (took (step .replay) (ends e .tidy) m i))
+    finish : (f : Replayed Noted) (x : ReplayedPort) → whole ≡ later at (take w answers) f → f .answers ≡ []
+        → x .number ≡ f .number → x .consumed ≡ at + f .consumed → x .written ≡ w
+        → _≡_ {A = HeldNoting} (heldNoting (held (x .port) statuses live cells) (momentsWith kept moments) (x .replay))
+        (record { port = notingKeep (bench k defaults) (notesIn k defaults) (f .bench); replay = replayOf (f .progress) })
+        → given x ≡ leaves (notingBench k defaults) whole room
+    finish f x e none n c u h =
+        let tw : length (take w answers) ≡ w = length-take-le w answers (omega (arith, v .long, v .w-in)) in
+        let a : take w answers ++ f .answers ≡ take w answers = ap (λ (l : List ℕ). take w answers ++ l) none ∙ append-nil (take w answers) in
+        let l : length (take w answers ++ f .answers) ≡ w = ap length a ∙ tw in
+        let y : answers ≡ (take w answers ++ f .answers) ++ drop (length (take w answers ++ f .answers)) room =
+        sym (take-append-drop w answers) ∙ (λ i. sym a i ++ (v .beyond ∙ ap (λ (j : ℕ). drop j room) (sym l)) i) in
+        _∙_ {A = Left HeldNoting}
+        (λ i. record { number = n i; consumed = c i; written = (u ∙ sym l) i; held = h i; answers = y i })
+        (ap (λ (g : Replayed Noted). leaves (notingBench k defaults) g room) (sym e))
 
-  pub ended : step .runs ≡ false → leftOf (endsAt dev (endOf step) input w) statuses live cells answers ≡ leaves (bench k defaults) (call k defaults input room s₀ q₀) room
-  ended e =
-      if-cases (λ (x : ReplayedPort). leftOf x statuses live cells answers ≡ leaves (bench k defaults) (call k defaults input room s₀ q₀) room)
-      (eqb (step .number) 0) (endsLeft dev (endOf step) input w) _ (left-over e) (stopped e)
+    ends-so : step .runs ≡ false → whole ≡ later at (take w answers) (later (step .at - at) [] (endAt input (v .bytes) (progressIn r) space at here step))
+    ends-so e =
+        v .so-far kept
+        ∙ ap (λ (j : ℕ). later at (take w answers) (replayOpen (notingDevice k defaults) (carrying here []) (progressIn r) j (drop at input))) (sym same-room)
+        ∙ ap (later at (take w answers)) (ends e .goes k defaults here)
+
+    -- with a number of its own
+    stopped : step .runs ≡ false → eqb (step .number) 0 ≡ false
+        → given (record { number = step .number; consumed = step .at; written = w; port = opened dev; replay = step .replay }) ≡ leaves (notingBench k defaults) whole room
+    stopped e z =
+        let f = still (step .number) (carrying here []) (progressIn (step .replay)) [] in
+        let c : step .at ≡ at + (step .at - at + 0) = omega (arith, ends e .from) in
+        finish (later (step .at - at) [] f) _
+        (ends-so e ∙ ap (λ (g : Replayed Noted). later at (take w answers) (later (step .at - at) [] g)) (if-false (eqb (step .number) 0) _ f z))
+        refl refl c refl (λ i. heldNoting (held (opened dev) statuses live cells) (momentsWith kept moments) (ends e .tidy i))
+
+    -- or what is left begins a record, or none
+    left-over : step .runs ≡ false → eqb (step .number) 0 ≡ true → given (endsLeft dev (endOf step) input w) ≡ leaves (notingBench k defaults) whole room
+    left-over e z =
+        let rest = drop (step .at) input in
+        let m = endCount rest (next rest) in
+        let f = leftAt input (v .bytes) (progressIn r) space at here step in
+        let c : step .at + (m - 0) ≡ at + (step .at - at + m) = omega (arith, ends e .from) in
+        let l : m ≡ length (take m rest) = sym (length-take-le m rest (end-few rest .1)) in
+        finish (later (step .at - at) [] f) _
+        (ends-so e ∙ ap (λ (g : Replayed Noted). later at (take w answers) (later (step .at - at) [] g)) (if-true (eqb (step .number) 0) f _ z))
+        refl refl c refl
+        (λ i. heldNoting (held (record { dev = dev; carried = pad 16 (take m rest); «carried_len» = l i; broken = eqb (endNumber (next rest)) 31 }) statuses live cells) (momentsWith kept moments)
+        (took (step .replay) (ends e .tidy) m i))
+
+    pub ended : step .runs ≡ false → given (endsAt dev (endOf step) input w) ≡ leaves (notingBench k defaults) whole room
+    ended e =
+        if-cases (λ (x : ReplayedPort). given x ≡ leaves (notingBench k defaults) whole room)
+        (eqb (step .number) 0) (endsLeft dev (endOf step) input w) _ (left-over e) (stopped e)
 
   -- no more is consumed than is there, and no more written than there is room for
   pub ended-few : step .runs ≡ false → (endsAt dev (endOf step) input w .consumed ≤ length input) × (endsAt dev (endOf step) input w .written ≤ length room)

@@ -16,8 +16,7 @@ use Rattle.trace.proofs.Tests.{if-cases, if-false}
 use Rattle.trace.proofs.Records.{carrying}
 use Rattle.trace.proofs.Loop.{Got, got-bytes, Counted, got-count, by-gather, next-itself}
 use Rattle.readiness.specs.declared.Setup.{Setup}
-use Rattle.records.specs.State.{State}
-use Rattle.records.specs.Device.{device}
+use Rattle.replay.specs.inner.Noted.{Noted, notingDevice}
 use Rattle.capture.specs.Advances.{Earlier, stampIn, back, due, advance}
 use Rattle.capture.specs.Replay.{Progress, Replayed, begins, endedWith, moreAnswered, still, later, replayOpen}
 use Rattle.capture.specs.Lent.{progressIn, replayOf}
@@ -71,8 +70,8 @@ more-due e stamp l a h false t =
 
 -- ---- a step at byte `at` of the input, with q in hand
 module _ (input : List ℕ) (inputs : Bytes input) (q : Progress) (space at : ℕ) where
-  abbrev here : (k : Setup) (defaults : List ℕ) → State → Replayed State
-  here k defaults s = replayOpen (device k defaults) (carrying s []) q space (drop at input)
+  abbrev here : (k : Setup) (defaults : List ℕ) → Noted → Replayed Noted
+  here k defaults s = replayOpen (notingDevice k defaults) (carrying s []) q space (drop at input)
 
   -- a record of the bytes w runs
   pub record RunsOf (w : List ℕ) (step : Step) : Type 0 where
@@ -83,8 +82,8 @@ module _ (input : List ℕ) (inputs : Bytes input) (q : Progress) (space at : �
     pub from : at ≤ step .at
     pub to : step .at ≤ length input
     pub after : Between (step .replay)
-    pub goes : (k : Setup) (defaults : List ℕ) (s : State)
-        → (let D = device k defaults in
+    pub goes : (k : Setup) (defaults : List ℕ) (s : Noted)
+        → (let D = notingDevice k defaults in
         here k defaults s
         ≡ later (step .at - at) (D .run s w .answer) (replayOpen D (carrying (D .run s w .state) []) (progressIn (step .replay)) (space - 8) (drop (step .at) input)))
 
@@ -92,7 +91,7 @@ module _ (input : List ℕ) (inputs : Bytes input) (q : Progress) (space at : �
   Runs step = RunsOf (stepBytes step input) step
 
   -- what is left begins a record, or none
-  abbrev pub leftAt : State → Step → Replayed State
+  abbrev pub leftAt : Noted → Step → Replayed Noted
   leftAt s step =
       let rest = drop (step .at) input in
       let n = endNumber (next rest) in
@@ -105,7 +104,7 @@ module _ (input : List ℕ) (inputs : Bytes input) (q : Progress) (space at : �
         answers = [];
       }
 
-  abbrev pub endAt : State → Step → Replayed State
+  abbrev pub endAt : Noted → Step → Replayed Noted
   endAt s step = if eqb (step .number) 0 then leftAt s step else still (step .number) (carrying s []) (progressIn (step .replay)) []
 
   -- the call ends
@@ -114,17 +113,17 @@ module _ (input : List ℕ) (inputs : Bytes input) (q : Progress) (space at : �
     pub from : at ≤ step .at
     pub to : step .at ≤ length input
     pub stamped : step .at < length input → step .replay .«stamp_len» ≡ 4
-    pub goes : (k : Setup) (defaults : List ℕ) (s : State) → here k defaults s ≡ later (step .at - at) [] (endAt s step)
+    pub goes : (k : Setup) (defaults : List ℕ) (s : Noted) → here k defaults s ≡ later (step .at - at) [] (endAt s step)
 
   abbrev pub Does : Step → Type 0
   Does step = (step .runs ≡ true → Runs step) × (step .runs ≡ false → Halts step)
 
   -- ---- the stamp's bytes are taken: q′ is in hand, and the rest is left
   module _ (q′ : Progress) (at′ : ℕ) (from : at ≤ at′) (to : at′ ≤ length input)
-      (taken : (k : Setup) (defaults : List ℕ) (s : State) → here k defaults s ≡ later (at′ - at) [] (replayOpen (device k defaults) (carrying s []) q′ space (drop at′ input)))
+      (taken : (k : Setup) (defaults : List ℕ) (s : Noted) → here k defaults s ≡ later (at′ - at) [] (replayOpen (notingDevice k defaults) (carrying s []) q′ space (drop at′ input)))
       (few : length (q′ .stamp) ≤ 4) (some : q′ .answered ≤ length (due (q′ .earlier) (q′ .stamp))) where
     does-halt : (n : ℕ) (q″ : Progress) → (at′ < length input → length (q″ .stamp) ≡ 4)
-        → ((k : Setup) (defaults : List ℕ) (s : State) → replayOpen (device k defaults) (carrying s []) q′ space (drop at′ input) ≡ endAt s (halts n q″ at′)) → Does (halts n q″ at′)
+        → ((k : Setup) (defaults : List ℕ) (s : Noted) → replayOpen (notingDevice k defaults) (carrying s []) q′ space (drop at′ input) ≡ endAt s (halts n q″ at′)) → Does (halts n q″ at′)
     does-halt n q″ stamped e = (
       λ f. absurd (false≢true f),
       λ _. record {
@@ -137,12 +136,12 @@ module _ (input : List ℕ) (inputs : Bytes input) (q : Progress) (space at : �
     )
 
     -- a record of the bytes w has run, and n more bytes are consumed
-    ran : (k : Setup) (defaults : List ℕ) (s : State) (w : List ℕ) (n : ℕ) (q″ : Progress) (at″ : ℕ) → at″ - at ≡ at′ - at + n → (rest : List ℕ) → drop at″ input ≡ rest
-        → (let D = device k defaults in
+    ran : (k : Setup) (defaults : List ℕ) (s : Noted) (w : List ℕ) (n : ℕ) (q″ : Progress) (at″ : ℕ) → at″ - at ≡ at′ - at + n → (rest : List ℕ) → drop at″ input ≡ rest
+        → (let D = notingDevice k defaults in
         replayOpen D (carrying s []) q′ space (drop at′ input) ≡ later n (D .run s w .answer) (replayOpen D (carrying (D .run s w .state) []) q″ (space - 8) rest)
         → here k defaults s ≡ later (at″ - at) (D .run s w .answer) (replayOpen D (carrying (D .run s w .state) []) (progressIn (replayOf q″)) (space - 8) (drop at″ input)))
     ran k defaults s w n q″ at″ c rest r e =
-        let D = device k defaults in
+        let D = notingDevice k defaults in
         let f = replayOpen D (carrying (D .run s w .state) []) q″ (space - 8) rest in
         taken k defaults s
         ∙ ap (later (at′ - at) []) e
@@ -151,7 +150,7 @@ module _ (input : List ℕ) (inputs : Bytes input) (q : Progress) (space at : �
 
     -- with a number of its own
     does-stop : (n : ℕ) (q″ : Progress) → 0 < n → (at′ < length input → length (q″ .stamp) ≡ 4)
-        → ((k : Setup) (defaults : List ℕ) (s : State) → replayOpen (device k defaults) (carrying s []) q′ space (drop at′ input) ≡ still n (carrying s []) q″ []) → Does (halts n q″ at′)
+        → ((k : Setup) (defaults : List ℕ) (s : Noted) → replayOpen (notingDevice k defaults) (carrying s []) q′ space (drop at′ input) ≡ still n (carrying s []) q″ []) → Does (halts n q″ at′)
     does-stop n q″ h stamped e =
         does-halt n q″ stamped
         (λ k defaults s. e k defaults s
@@ -169,12 +168,12 @@ module _ (input : List ℕ) (inputs : Bytes input) (q : Progress) (space at : �
       -- 32
       does-back : back (q′ .earlier) (stampIn (q′ .stamp)) ≡ true → Does (halts 32 (endedWith 32 q′) at′)
       does-back b =
-          does-stop 32 (endedWith 32 q′) (omega arith) (λ _. stamped) (λ k defaults s. rw rest (goes-back (device k defaults) s q′ space kind more stamped b))
+          does-stop 32 (endedWith 32 q′) (omega arith) (λ _. stamped) (λ k defaults s. rw rest (goes-back (notingDevice k defaults) s q′ space kind more stamped b))
 
       -- 33
       does-01 : back (q′ .earlier) (stampIn (q′ .stamp)) ≡ false → eqb kind 1 ≡ true → Does (halts 33 (endedWith 33 q′) at′)
       does-01 b o =
-          does-stop 33 (endedWith 33 q′) (omega arith) (λ _. stamped) (λ k defaults s. rw rest (kind-01 (device k defaults) s q′ space kind more stamped b o))
+          does-stop 33 (endedWith 33 q′) (omega arith) (λ _. stamped) (λ k defaults s. rw rest (kind-01 (notingDevice k defaults) s q′ space kind more stamped b o))
 
       module _ (order : InOrder q′ kind) where
         -- an advance
@@ -182,7 +181,7 @@ module _ (input : List ℕ) (inputs : Bytes input) (q : Progress) (space at : �
             → Does (if ltb space 8 then halts 30 q′ at′ else runsAdvance t (moreAnswered 1 q′) at′)
         does-advance t others e =
             if-cases Does (ltb space 8) _ _
-            (λ h. does-stop 30 q′ (omega arith) (λ _. stamped) (λ k defaults s. rw rest (no-advance-room (device k defaults) s q′ space kind more order t others e (ltb-true space 8 h))))
+            (λ h. does-stop 30 q′ (omega arith) (λ _. stamped) (λ k defaults s. rw rest (no-advance-room (notingDevice k defaults) s q′ space kind more order t others e (ltb-true space 8 h))))
             (λ h. (
               λ _. record {
                 is = advance-whole t;
@@ -194,7 +193,7 @@ module _ (input : List ℕ) (inputs : Bytes input) (q : Progress) (space at : �
                 after = between-kept (moreAnswered 1 q′) few (omega (arith, length-drop (q′ .answered) (due (q′ .earlier) (q′ .stamp)), ap length e));
                 goes =
                     λ k defaults s. ran k defaults s (advance t) 0 (moreAnswered 1 q′) at′ (omega arith) (drop at′ input) refl
-                    (rw rest (one-advance (device k defaults) s q′ space kind more order t others e (ltb-false space 8 h)));
+                    (rw rest (one-advance (notingDevice k defaults) s q′ space kind more order t others e (ltb-false space 8 h)));
               },
               λ f. absurd (true≢false f),
             ))
@@ -227,7 +226,7 @@ module _ (input : List ℕ) (inputs : Bytes input) (q : Progress) (space at : �
                 to = omega (arith, counts .there, length-drop at′ input);
                 after = between-kept (begins q′) (omega arith) (omega arith);
                 goes =
-                    λ k defaults s. let D = device k defaults in
+                    λ k defaults s. let D = notingDevice k defaults in
                     ran k defaults s (g .whole) size (begins q′) (at′ + size) (omega arith) (drop size l) (sym (drop-drop size at′ input))
                     (whole-record D s q′ space l (g .whole) there (g .is) room
                     ∙ ap (λ (n : ℕ). later n (D .run s (g .whole) .answer) (replayOpen D (carrying (D .run s (g .whole) .state) []) (begins q′) (space - 8) (drop n l))) (sym (g .count)));
@@ -243,7 +242,7 @@ module _ (input : List ℕ) (inputs : Bytes input) (q : Progress) (space at : �
             let m = endCount l (next l) in
             if-cases Does (eqb size 0) _ _
             (λ z. does-halt 0 q′ (λ _. stamped)
-            (λ k defaults s. no-record (device k defaults) s q′ space l n m (record { kind = kind; more = more; bytes = rest; in-order = order; answered = e }) (by-gather (device k defaults) s space l .1 (eqb-true size 0 z))
+            (λ k defaults s. no-record (notingDevice k defaults) s q′ space l n m (record { kind = kind; more = more; bytes = rest; in-order = order; answered = e }) (by-gather (notingDevice k defaults) s space l .1 (eqb-true size 0 z))
             ∙ ap (λ (p : Progress). record { bench = record { state = s; carried = take m l; broken = eqb n 31 }; progress = tookKind p m; number = n; consumed = m; answers = [] }) (sym (read-kept q′))))
             (λ z. let g = by-gather blank tt space l .0 (positive size z) in (λ _. does-whole e size (g .0) (g .1), λ f. absurd (true≢false f)))
 
@@ -280,9 +279,9 @@ module _ (input : List ℕ) (inputs : Bytes input) (q : Progress) (space at : �
       let long : length (q .stamp ++ bs) ≡ length (q .stamp) + n = length-append (q .stamp) bs in
       let d : drop n l ≡ drop (at + n) input = drop-drop n at input in
       does-after (moreBytes bs q) (at + n) (omega arith) (omega (arith, length-drop at input))
-      (λ k defaults s. ap (λ (z : List ℕ). replayOpen (device k defaults) (carrying s []) q space z) (sym (take-then (4 - length (q .stamp)) l))
-      ∙ stamps (device k defaults) s q space bs (drop n l) (omega arith)
-      ∙ (λ i. later (count n i) [] (replayOpen (device k defaults) (carrying s []) (moreBytes bs q) space (d i))))
+      (λ k defaults s. ap (λ (z : List ℕ). replayOpen (notingDevice k defaults) (carrying s []) q space z) (sym (take-then (4 - length (q .stamp)) l))
+      ∙ stamps (notingDevice k defaults) s q space bs (drop n l) (omega arith)
+      ∙ (λ i. later (count n i) [] (replayOpen (notingDevice k defaults) (carrying s []) (moreBytes bs q) space (d i))))
       (omega arith)
       (more-due (q .earlier) (q .stamp) l (q .answered) some (ltb (length (q .stamp)) 4) refl)
       (drop (at + n) input) refl

@@ -22,8 +22,7 @@ use Rattle.trace.proofs.Tests.{if-cases, if-true}
 use Rattle.trace.proofs.Gathering.{size-within, runs-whole}
 use Rattle.trace.proofs.Loop.{Got, got-bytes, by-gather, next-itself}
 use Rattle.readiness.specs.declared.Setup.{Setup}
-use Rattle.records.specs.State.{State}
-use Rattle.records.specs.Device.{device}
+use Rattle.replay.specs.inner.Noted.{Noted, notingDevice}
 use Rattle.decode.proofs.Fields.{kind-at}
 use Rattle.capture.specs.declared.Replay.{Replay}
 use Rattle.capture.specs.Advances.{none, was, due, advance, advanceBytes}
@@ -73,7 +72,7 @@ none-yet q space at input h =
       to = h;
       goes =
           λ k defaults s.
-          let D = device k defaults in
+          let D = notingDevice k defaults in
           let z : 0 ≡ at - at = omega arith in
           (λ i. replayOpen D (openIn s) q (sym (sub-zero space) i) (drop at input))
           ∙ sym (later-zero (replayOpen D (openIn s) q (space - 0) (drop at input)))
@@ -161,17 +160,17 @@ module _ {before : Stamp} {input : List ℕ} {at left room : ℕ} {e : Entry} (n
   many = length-append (map advance ts) (bytes ∷ []) ∙ ap (λ (m : ℕ). m + 1) (length-map ts advance)
 
   -- and their runs
-  module _ (k : Setup) (defaults : List ℕ) (s : State) where
-    abbrev y : Ran State
-    y = runs (device k defaults) s (map advance ts)
+  module _ (k : Setup) (defaults : List ℕ) (s : Noted) where
+    abbrev y : Ran Noted
+    y = runs (notingDevice k defaults) s (map advance ts)
 
-    abbrev z : Ran State
-    z = device k defaults .run (y .state) bytes
+    abbrev z : Ran Noted
+    z = notingDevice k defaults .run (y .state) bytes
 
-    runs-more : _≡_ {A = Ran State} (runs (device k defaults) s more) (record { state = z .state; answer = y .answer ++ z .answer })
+    runs-more : _≡_ {A = Ran Noted} (runs (notingDevice k defaults) s more) (record { state = z .state; answer = y .answer ++ z .answer })
     unfolding runs
     runs-more =
-        _∙_ {A = Ran State} (runs-append (device k defaults) s (map advance ts) (bytes ∷ []))
+        _∙_ {A = Ran Noted} (runs-append (notingDevice k defaults) s (map advance ts) (bytes ∷ []))
         (λ i. record { state = z .state; answer = y .answer ++ append-nil (z .answer) i })
 
 -- THE ENTRY, written out
@@ -191,7 +190,7 @@ entry-written {before} {input} {at} {left} {room} {e} n some b =
       to = omega (arith, n .there, short n some);
       goes =
           λ k defaults s.
-          let D = device k defaults in
+          let D = notingDevice k defaults in
           let rest = drop (at + 4 + e .size) input in
           let left-then : left - (8 * length t + 8) ≡ left - (8 * e .due .count + 8) = ap (λ (m : ℕ). left - (8 * m + 8)) (sym (count n some)) in
           let c : 4 + length w ≡ at + 4 + e .size - at = omega (arith, length-bytes n some) in
@@ -215,7 +214,7 @@ written-append {q} {q₁} {q₂} {space} {at} {at₁} {at₂} {a₁} {a₂} {inp
       to = p .to;
       goes =
           λ k defaults s.
-          let D = device k defaults in
+          let D = notingDevice k defaults in
           let x = runs D s (o .records) in
           let y = runs D (x .state) (p .records) in
           let rest = drop at₂ input in

@@ -7,7 +7,7 @@ use native.Mathlib.Omega.{arith}
 use lib.ListN.{length, drop}
 use Rattle.trace.specs.Format.{Bytes}
 use Rattle.trace.specs.Bench.{runs}
-use Rattle.records.specs.Device.{device}
+use Rattle.replay.specs.inner.Noted.{Noted, notingDevice}
 use Rattle.capture.specs.declared.Replay.{Replay}
 use Rattle.capture.specs.Replay.{later, replayOpen}
 use Rattle.capture.specs.Lent.{progressIn}
@@ -39,7 +39,7 @@ module _ (r : Replay) (space at : ℕ) (input : List ℕ) (bytes : Bytes input) 
         to = d .to;
         goes =
             λ k defaults s.
-            let D = device k defaults in
+            let D = notingDevice k defaults in
             let x = D .run s w in
             d .goes k defaults s
             ∙ ap (λ (a : List ℕ). later (step .at - at) a (replayOpen D (openIn (x .state)) (progressIn (step .replay)) (space - 8) (drop (step .at) input))) (sym (append-nil (x .answer)));

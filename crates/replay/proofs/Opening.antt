@@ -13,16 +13,19 @@ use Rattle.trace.proofs.Gathering.{begun-partial}
 use Rattle.bits.proofs.Tests.{both-left, both-right}
 use Rattle.readiness.specs.declared.Status.{Status}
 use Rattle.readiness.specs.declared.Setup.{Setup}
+use Rattle.readiness.specs.declared.Moment.{Moment}
+use Rattle.readiness.specs.MadeReady.{momentsOf}
 use Rattle.readiness.specs.inner.Phases.{statusesIn}
 use Rattle.records.specs.declared.Port.{Port}
 use Rattle.records.specs.State.{State}
-use Rattle.records.specs.Device.{device}
 use Rattle.capture.specs.declared.Replay.{Replay}
 use Rattle.capture.specs.Advances.{due}
 use Rattle.capture.specs.Replay.{Progress, replayOpen}
 use Rattle.capture.specs.Lent.{Held, progressIn, replayOf, benchIn, stampFits, matching, refusalWith, stopsFirst, leaves, replays}
 use Rattle.capture.proofs.Refusing.{refuses-first, stops-refused, replays-stopped, replays-open}
+use Rattle.capture.specs.Noting.{baseHeld, baseLeft}
 use Rattle.capture.proofs.Kept.{read-kept}
+use Rattle.capture.proofs.Noting.{same-stops, replays-base}
 use Rattle.capture.proofs.Reasons.{matched-stands}
 use Rattle.demand3.specs.Held.{Held as HeldPort, held, lentOf, stateOf, carriedOf}
 use Rattle.demand3.specs.Feeding.{bench}
@@ -30,9 +33,11 @@ use Rattle.set_up.specs.Lent.{heldIn}
 use Rattle.set_up.proofs.Stopping.{too-many}
 use Rattle.feed.proofs.Accepting.{Accepted, accepted}
 use Rattle.feed.proofs.Lent.{lent-numbers, numbers-lent}
-use Rattle.replay_rules.specs.Replaying.{HeldWith, heldWith, replays as replaysAt}
-use Rattle.replay.specs.declared.ReplayedPort.{ReplayedPort}
-use Rattle.replay.specs.Left.{leftInPlace}
+use Rattle.replay_rules.specs.Replaying.{HeldWith, replays as replaysAt}
+use Rattle.replay_rules.specs.KeepingMoments.{notesIn, notingBench, HeldNoting, heldNoting, replaysNoting}
+use Rattle.replay.specs.declared.ReplayedInPlace.{ReplayedInPlace}
+use Rattle.replay.specs.Left.{leftKeptInPlace}
+use Rattle.replay.specs.inner.Noted.{Noted, notingDevice}
 use Rattle.feed.specs.inner.Calls.{NotRefused}
 use Rattle.replay.specs.inner.Calls.{Between, comesTo}
 use Rattle.replay.proofs.NextStep.{tidy-kept}
@@ -89,27 +94,44 @@ module _ (setup : Setup) (defaults : List ℕ) (h : HeldWith) (bus : setup .bus 
       let s = matched-stands (carriedOf (h .port .port)) q (begun-partial (carriedOf (h .port .port)) (relies .begun)) (both-right (stampFits (h .replay)) _ (unstopped L h e .matched)) in
       record { tidy = tidy-kept q; few = s .stamp; answered = subst (λ (p : Progress). q .answered ≤ length (due (p .earlier) (p .stamp))) (sym (read-kept q)) (s .some) }
 
-  -- what it comes to
-  pub replays-opened : (input answers : List ℕ) → comesTo setup defaults (stateOf (h .port)) (carriedOf (h .port .port)) (progressIn (replayOf q)) input answers ≡ replaysAt setup defaults h input answers
-  replays-opened input answers =
-      (λ i. comesTo setup defaults (stateOf (h .port)) (carriedOf (h .port .port)) (read-kept q i) input answers)
-      ∙ (λ i. leaves L (replayOpen (device setup defaults) (record { state = stateOf (h .port); carried = carriedOf (h .port .port); broken = sym (unstopped L h e .unbroken) i }) q (length answers) input) answers)
-      ∙ sym (replays-open L h input answers e)
+  -- what it comes to, with the moments
+  pub replays-opened : (kept : List Moment) (input answers : List ℕ)
+      → comesTo setup defaults (record { base = stateOf (h .port); kept = kept }) (carriedOf (h .port .port)) (progressIn (replayOf q)) input answers ≡ replaysNoting setup defaults (heldNoting (h .port) kept (h .replay)) input answers
+  replays-opened kept input answers =
+      let N = notingBench setup defaults in
+      let s : Noted = record { base = stateOf (h .port); kept = kept } in
+      (λ i. comesTo setup defaults s (carriedOf (h .port .port)) (read-kept q i) input answers)
+      ∙ (λ i. leaves N (replayOpen (notingDevice setup defaults) (record { state = s; carried = carriedOf (h .port .port); broken = sym (unstopped L h e .unbroken) i }) q (length answers) input) answers)
+      ∙ sym (replays-open N (heldNoting (h .port) kept (h .replay)) input answers (same-stops L (notesIn setup defaults) (heldNoting (h .port) kept (h .replay)) ∙ e))
+
+-- with a number nothing changes, the moments neither
+pub replays-not : (setup : Setup) (defaults : List ℕ) (h : HeldWith) (kept : List Moment) (input answers : List ℕ) (n : ℕ) → n ≡ stopsFirst (bench setup defaults) h → (n ≡ 0 → ⊥)
+    → unchanged (heldNoting (h .port) kept (h .replay)) answers n ≡ replaysNoting setup defaults (heldNoting (h .port) kept (h .replay)) input answers
+replays-not setup defaults h kept input answers n e z =
+    let N = notingBench setup defaults in
+    let g = heldNoting (h .port) kept (h .replay) in
+    replays-no N g input answers n (e ∙ sym (same-stops (bench setup defaults) (notesIn setup defaults) g)) z
 
 -- the stamp fits
 pub stamp-fits : (setup : Setup) (defaults : List ℕ) (h : HeldWith) → stopsFirst (bench setup defaults) h ≡ 0 → stampFits (h .replay) ≡ true
 stamp-fits setup defaults h e = let L = bench setup defaults in both-left (stampFits (h .replay)) _ (unstopped L h e .matched)
 
 -- ---- a call that changes the lent numbers in place is a call on the lent statuses
-pub in-place-lent : (setup : Setup) (defaults : List ℕ) (n k : ℕ) (phases : List ℕ) (port : Port) (live cells : List ℕ) (m : Replay) (input answers : List ℕ) (r : ReplayedPort) (lent′ after live′ cells′ answers′ : List ℕ)
-    → k ≡ 3 * n → k ≤ length phases → length lent′ ≡ k
-    → leftInPlace r lent′ live′ cells′ answers′ ≡ replaysAt setup defaults (heldWith (heldIn port (take k phases) live cells) m) input answers
-    → _≡_ {A = Left HeldWith}
-    (record { number = r .number; consumed = r .consumed; written = r .written; held = heldWith (held (r .port) (lentOf n (statusesIn (lent′ ++ after))) live′ cells′) (r .replay); answers = answers′ })
-    (replaysAt setup defaults (heldWith (held port (lentOf n (statusesIn phases)) live cells) m) input answers)
-in-place-lent setup defaults n k phases port live cells m input answers r lent′ after live′ cells′ answers′ e h j x =
-    ap {B = Left HeldWith}
-    (λ (l : List Status). record { number = r .number; consumed = r .consumed; written = r .written; held = heldWith (held (r .port) l live′ cells′) (r .replay); answers = answers′ })
+pub in-place-lent : (setup : Setup) (defaults : List ℕ) (n k : ℕ) (phases : List ℕ) (port : Port) (live cells : List ℕ) (m : Replay) (kept : List Moment) (input answers : List ℕ) (r : ReplayedInPlace) (lent′ after live′ cells′ answers′ : List ℕ)
+    → k ≡ 4 * n → k ≤ length phases → length lent′ ≡ k
+    → leftKeptInPlace r lent′ live′ cells′ answers′ ≡ replaysNoting setup defaults (heldNoting (heldIn port (take k phases) live cells) kept m) input answers
+    → _≡_ {A = Left HeldNoting}
+    (record { number = r .number; consumed = r .consumed; written = r .written; held = heldNoting (held (r .port) (lentOf n (statusesIn (lent′ ++ after))) live′ cells′) (momentsOf (r .moments)) (r .replay); answers = answers′ })
+    (replaysNoting setup defaults (heldNoting (held port (lentOf n (statusesIn phases)) live cells) kept m) input answers)
+in-place-lent setup defaults n k phases port live cells m kept input answers r lent′ after live′ cells′ answers′ e h j x =
+    ap {B = Left HeldNoting}
+    (λ (l : List Status). record { number = r .number; consumed = r .consumed; written = r .written; held = heldNoting (held (r .port) l live′ cells′) (momentsOf (r .moments)) (r .replay); answers = answers′ })
     (numbers-lent n lent′ after (j ∙ e))
     ∙ x
-    ∙ ap (λ (l : List Status). replaysAt setup defaults (heldWith (held port l live cells) m) input answers) (lent-numbers n k phases e h)
+    ∙ ap (λ (l : List Status). replaysNoting setup defaults (heldNoting (held port l live cells) kept m) input answers) (lent-numbers n k phases e h)
+
+-- ---- a call without the moments
+pub without-moments : (setup : Setup) (defaults : List ℕ) (h : HeldNoting) (input answers : List ℕ) (x : Left HeldNoting) → x ≡ replaysNoting setup defaults h input answers
+    → baseLeft (bench setup defaults) (notesIn setup defaults) x ≡ replaysAt setup defaults (baseHeld (bench setup defaults) (notesIn setup defaults) h) input answers
+without-moments setup defaults h input answers x e =
+    ap (baseLeft (bench setup defaults) (notesIn setup defaults)) e ∙ replays-base (bench setup defaults) (notesIn setup defaults) h input answers

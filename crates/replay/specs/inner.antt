@@ -1,3 +1,4 @@
+pub mod Noted
 pub mod Steps
 pub mod Calls
 pub mod Stretches

@@ -14,8 +14,11 @@ ghost use Rattle.demand3.specs.Held.{held, lentOf};
 ghost use Rattle.demand3.specs.Feeding.{bench};
 ghost use Rattle.set_up.specs.Lent.{heldIn};
 ghost use Rattle.replay_rules.specs.Replaying.{heldWith, replays};
-ghost use Rattle.replay.specs.Left.{left, leftInPlace};
+ghost use Rattle.replay_rules.specs.KeepingMoments.{heldNoting, replaysNoting};
+ghost use Rattle.readiness.specs.MadeReady.{momentsOf};
+ghost use Rattle.replay.specs.Left.{left, leftInPlace, leftKept, leftKeptInPlace};
 use capture::Replay;
+use readiness::Moments;
 use readiness::Setup;
 use readiness::Status;
 use records::Port;
@@ -24,6 +27,8 @@ use replay_state::matching::matches;
 use replay_state::stamps::tidy;
 use running::run_capture;
 use set_up::refusing::refusal;
+use settle::moments::forget;
+use settle::moments::gathered;
 use settle::phases::in_numbers;
 use settle::phases::in_statuses;
 use ticks::Stamp;
@@ -37,9 +42,20 @@ pub struct Replayed {
     pub port: Port,
     pub statuses: [Status; 32],
     pub replay: Replay,
+    pub moments: Moments,
 }
 
 // What replay gives where the statuses are changed in place, beside the lent slices.
+pub struct ReplayedInPlace {
+    pub number: u8,
+    pub consumed: usize,
+    pub written: usize,
+    pub port: Port,
+    pub replay: Replay,
+    pub moments: Moments,
+}
+
+// What the entries of a call give, beside the lent slices.
 pub struct ReplayedPort {
     pub number: u8,
     pub consumed: usize,
@@ -111,53 +127,69 @@ fn stops(
     no
 }
 
-// Replay where the statuses are numbers, three to a slot, which are changed in place: a refusal changes nothing.
+// Replay where the statuses are numbers, four to a slot, which are changed in place: a refusal changes nothing.
 pub fn replay_in_place(
     setup: Setup,
     port: Port,
     phases: &mut [u64],
     state: Replay,
+    moments: Moments,
     live: &mut [u32],
     defaults: &[u32],
     cells: &mut [u32],
     input: &[u8],
     answers: &mut [u8],
-) -> ReplayedPort
+) -> ReplayedInPlace
     ensures { λ r. ⌜ leftInPlace r (now (phases .exit)) (now (live .exit)) (now (cells .exit)) (now (answers .exit))
         ≡ replays setup (now (defaults .entry)) (heldWith (heldIn port (now (phases .entry)) (now (live .entry)) (now (cells .entry))) state) (now (input .entry)) (now (answers .entry)) ⌝ }
+    ensures { λ r. ⌜ leftKeptInPlace r (now (phases .exit)) (now (live .exit)) (now (cells .exit)) (now (answers .exit))
+        ≡ replaysNoting setup (now (defaults .entry)) (heldNoting (heldIn port (now (phases .entry)) (now (live .entry)) (now (cells .entry))) (momentsOf moments) state) (now (input .entry)) (now (answers .entry)) ⌝ }
 {
     let number = stops(setup, port, phases, live.len(), defaults, cells, state);
     if number != 0 {
-        return ReplayedPort {
+        return ReplayedInPlace {
             number: number,
             consumed: 0,
             written: 0,
             port: port,
             replay: state,
+            moments: moments,
         };
     }
     let table = registers::attributes();
-    run_capture(
+    forget(&mut *phases);
+    let x = run_capture(
         &table,
         setup,
         port,
         tidy(state),
-        phases,
+        &mut *phases,
         live,
         defaults,
         cells,
         input,
         answers,
-    )
+    );
+    let after = x.port;
+    let moved = x.replay;
+    ReplayedInPlace {
+        number: x.number,
+        consumed: x.consumed,
+        written: x.written,
+        port: after,
+        replay: moved,
+        moments: gathered(moments, phases),
+    }
 }
 
-// REPLAY: a refusal changes nothing.
+// REPLAY, which keeps the moments at which it makes slots Ready: a refusal changes nothing.
 pub fn replay(
     setup: Setup,
     port: Port,
     statuses: [Status; 32],
     lent: usize,
     state: Replay,
+    moments: Moments,
     live: &mut [u32],
     defaults: &[u32],
     cells: &mut [u32],
@@ -166,6 +198,8 @@ pub fn replay(
 ) -> Replayed
     ensures { λ r. ⌜ left lent r (now (live .exit)) (now (cells .exit)) (now (answers .exit))
         ≡ replays setup (now (defaults .entry)) (heldWith (held port (lentOf lent statuses) (now (live .entry)) (now (cells .entry))) state) (now (input .entry)) (now (answers .entry)) ⌝ }
+    ensures { λ r. ⌜ leftKept lent r (now (live .exit)) (now (cells .exit)) (now (answers .exit))
+        ≡ replaysNoting setup (now (defaults .entry)) (heldNoting (held port (lentOf lent statuses) (now (live .entry)) (now (cells .entry))) (momentsOf moments) state) (now (input .entry)) (now (answers .entry)) ⌝ }
 {
     if 32 < lent {
         return Replayed {
@@ -175,15 +209,17 @@ pub fn replay(
             port: port,
             statuses: statuses,
             replay: state,
+            moments: moments,
         };
     }
     let mut phases = in_numbers(statuses);
-    let end = 3 * lent;
+    let end = 4 * lent;
     let x = replay_in_place(
         setup,
         port,
         &mut phases[0..end],
         state,
+        moments,
         live,
         defaults,
         cells,
@@ -192,6 +228,7 @@ pub fn replay(
     );
     let after = x.port;
     let moved = x.replay;
+    let made = x.moments;
     Replayed {
         number: x.number,
         consumed: x.consumed,
@@ -199,5 +236,6 @@ pub fn replay(
         port: after,
         statuses: in_statuses(phases),
         replay: moved,
+        moments: made,
     }
 }

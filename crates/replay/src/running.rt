@@ -1,16 +1,17 @@
 // The entries of a call that is not stopped, each in its turn.
 ghost use mathlib.Core.Path.{_≡_};
-ghost use mathlib.Core.List.{[]};
+ghost use mathlib.Core.List.{List, []};
 ghost use Prim.Native.Nat.{_+_, _≤_, _<_};
 ghost use lib.ListN.{length};
 ghost use Rattle.registers.specs.Rows.{masks};
 ghost use Rattle.capture.specs.Lent.{progressIn};
 ghost use Rattle.demand3.specs.Held.{opened, carriedOf};
 ghost use Rattle.set_up.specs.Lent.{heldIn};
-ghost use Rattle.execute.specs.inner.Lent.{stateIn};
 ghost use Rattle.feed.specs.inner.Calls.{NotRefused, Completes};
 ghost use Rattle.replay_state.specs.inner.Moves.{Tidy};
-ghost use Rattle.replay.specs.Left.{leftInPlace};
+ghost use Rattle.readiness.specs.declared.Moment.{Moment};
+ghost use Rattle.replay.specs.Left.{leftNoting};
+ghost use Rattle.replay.specs.inner.Noted.{notedIn};
 ghost use Rattle.replay.specs.inner.Calls.{Between, comesTo, tookKindOf, endsAt, carriedOn};
 use crate::ReplayedPort;
 use crate::Stretch;
@@ -84,8 +85,8 @@ fn run_entries(
     requires { ⌜ now table ≡ masks ⌝ }
     requires { ⌜ NotRefused setup (now defaults) (heldIn (opened start) (now phases) (now live) (now cells)) ⌝ }
     requires { ⌜ Between begun ⌝ }
-    ensures { λ r. ⌜ leftInPlace r (now (phases .exit)) (now (live .exit)) (now (cells .exit)) (now (answers .exit))
-        ≡ comesTo setup (now (defaults .entry)) (stateIn start (now (phases .entry)) (now (live .entry)) (now (cells .entry))) [] (progressIn begun) (now (input .entry)) (now (answers .entry)) ⌝ }
+    ensures { λ r. ⌜ ((kept : List Moment) → leftNoting kept r (now (phases .exit)) (now (live .exit)) (now (cells .exit)) (now (answers .exit))
+        ≡ comesTo setup (now (defaults .entry)) (notedIn kept start (now (phases .entry)) (now (live .entry)) (now (cells .entry))) [] (progressIn begun) (now (input .entry)) (now (answers .entry))) ⌝ }
     ensures { λ r. ⌜ (r .consumed ≤ length (now (input .entry))) × (r .written ≤ length (now (answers .entry))) ⌝ }
 {
     let mut trace = [0u8; LONG];
@@ -170,8 +171,8 @@ fn run_joined(
     requires { ⌜ Between begun ⌝ }
     requires { ⌜ 0 < port .«carried_len» ⌝ }
     requires { ⌜ Completes port (now input) (length (now answers)) size ⌝ }
-    ensures { λ r. ⌜ leftInPlace r (now (phases .exit)) (now (live .exit)) (now (cells .exit)) (now (answers .exit))
-        ≡ comesTo setup (now (defaults .entry)) (stateIn (port .dev) (now (phases .entry)) (now (live .entry)) (now (cells .entry))) (carriedOf port) (progressIn begun) (now (input .entry)) (now (answers .entry)) ⌝ }
+    ensures { λ r. ⌜ ((kept : List Moment) → leftNoting kept r (now (phases .exit)) (now (live .exit)) (now (cells .exit)) (now (answers .exit))
+        ≡ comesTo setup (now (defaults .entry)) (notedIn kept (port .dev) (now (phases .entry)) (now (live .entry)) (now (cells .entry))) (carriedOf port) (progressIn begun) (now (input .entry)) (now (answers .entry))) ⌝ }
 {
     let dev = port.dev;
     let carried = port.carried;
@@ -221,8 +222,8 @@ pub fn run_capture(
     requires { ⌜ now table ≡ masks ⌝ }
     requires { ⌜ NotRefused setup (now defaults) (heldIn port (now phases) (now live) (now cells)) ⌝ }
     requires { ⌜ Between begun ⌝ }
-    ensures { λ r. ⌜ leftInPlace r (now (phases .exit)) (now (live .exit)) (now (cells .exit)) (now (answers .exit))
-        ≡ comesTo setup (now (defaults .entry)) (stateIn (port .dev) (now (phases .entry)) (now (live .entry)) (now (cells .entry))) (carriedOf port) (progressIn begun) (now (input .entry)) (now (answers .entry)) ⌝ }
+    ensures { λ r. ⌜ ((kept : List Moment) → leftNoting kept r (now (phases .exit)) (now (live .exit)) (now (cells .exit)) (now (answers .exit))
+        ≡ comesTo setup (now (defaults .entry)) (notedIn kept (port .dev) (now (phases .entry)) (now (live .entry)) (now (cells .entry))) (carriedOf port) (progressIn begun) (now (input .entry)) (now (answers .entry))) ⌝ }
 {
     let len = port.carried_len;
     if len == 0 {

@@ -1,3 +1,4 @@
 pub mod Stamps
 pub mod ReadBack
 pub mod Examples
+pub mod MomentStores

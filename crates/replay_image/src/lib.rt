@@ -1,4 +1,6 @@
 // The state of a replay as bytes, in the layout of the case stream.
+pub mod moments; // the moments that it keeps
+
 ghost use mathlib.Core.Path.{_≡_};
 ghost use lib.Seq.{sets};
 ghost use Rattle.state_layout.specs.Image.{upTo};

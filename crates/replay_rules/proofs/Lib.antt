@@ -1,2 +1,3 @@
 pub mod GivenForNo
 pub mod OneReplay
+pub mod KeepingMoments

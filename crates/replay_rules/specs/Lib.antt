@@ -1,3 +1,4 @@
 pub mod Replaying
 pub mod GivenForNo
 pub mod OneReplay
+pub mod KeepingMoments

@@ -11,6 +11,7 @@ use feed::Fed;
 use readiness::Setup;
 use readiness::Status;
 use readiness::all_down;
+use readiness::no_moments;
 use records::Port;
 use records::blank_port;
 use replay_state::stamps::fresh;
@@ -62,7 +63,7 @@ fn feed_pieces(
     let table = registers::attributes();
     let mut port = start;
     let mut phases = in_numbers(begun);
-    let places = 3 * setup.slots;
+    let places = 4 * setup.slots;
     let mut number: u8 = 0;
     let mut consumed: usize = 0;
     let mut written: usize = 0;
@@ -159,6 +160,7 @@ pub fn replay_over(
         statuses,
         setup.slots,
         fresh(),
+        no_moments(),
         live,
         defaults,
         cells,

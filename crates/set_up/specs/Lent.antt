@@ -1,4 +1,4 @@
--- What is lent where the statuses are numbers, three to a slot.
+-- What is lent where the statuses are numbers, four to a slot.
 use Prim.Native.Nat.{ℕ}
 use mathlib.Core.List.{List}
 use Rattle.readiness.specs.inner.Phases.{statusesIn}

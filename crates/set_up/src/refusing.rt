@@ -163,7 +163,7 @@ pub fn refusal(
     ensures { λ r. ⌜ ((words : List ℕ) → length words ≡ live
         → r ≡ refusalOr31 (bench setup (now (defaults .entry))) (heldIn port (now (phases .entry)) words (now (cells .entry)))) ⌝ }
 {
-    let no = set_up_refusal(setup, phases.len() / 3, live, defaults, cells.len());
+    let no = set_up_refusal(setup, phases.len() / 4, live, defaults, cells.len());
     if no != 0 {
         return no;
     }

@@ -3,3 +3,4 @@ pub mod Scan
 pub mod Settling
 pub mod Statuses
 pub mod Insertion
+pub mod Gathering

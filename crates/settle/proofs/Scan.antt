@@ -18,9 +18,13 @@ use Rattle.readiness.specs.declared.Slot.{Slot}
 use Rattle.settle.specs.declared.Due.the-variants.{Nothing, At}
 use Rattle.readiness.specs.Status.{ready}
 use Rattle.readiness.specs.Root.{frsArrive}
+use Rattle.readiness.specs.declared.Moment.the-variants as moment
+use Rattle.readiness.specs.declared.Moment.the-variants.{Never}
+use Rattle.readiness.specs.MadeReady.{madeBy}
 use Rattle.readiness.specs.Events.{Event, reached, dueEvent, due, frsOfSlot}
 use Rattle.settle.specs.inner.Next.{firstDue}
 use Rattle.readiness.proofs.Order.{each-mem, never-pending}
+use Rattle.readiness.proofs.KeptMoments.{pending-there}
 use Rattle.readiness.proofs.Laws.{InOrder, due-order, due-unique}
 use Rattle.readiness.specs.inner.OneSlot.{SlotScene, slotHappens, slotSettles}
 
@@ -61,15 +65,15 @@ slot-readies bus entry slot x i cause t e = go (x .status .phase) e
     go Ready q = let z : _≡_ {A = ℕ} 0 1 = cc in absurd (omega arith)
     go (Pending d u) q = at (reached (x .root .dev .clock) u) d u q
 
--- ---- the first of the events that are due, and the others
+-- when it did, if it did
+pub made-none : (es : List Event) → firstDue es ≡ Nothing → Never ≡ madeBy es
+made-none es e = sym (ap madeBy (none-due es e))
 
--- a slot that is Pending is there
-pending-there : (l : List Status) (i : ℕ) (c : Cause) (t : Nanos) → getD l i ready .phase ≡ Pending c t → i < length l
-pending-there l i c t e = by (ltb i (length l)) refl
-  where
-    by : (b : Bool) → ltb i (length l) ≡ b → i < length l
-    by true h = ltb-true i (length l) h
-    by false h = absurd (never-pending c t (sym (ap (λ (s : Status). s .phase) (List·getD-eq-default l ready (ltb-false i (length l) h))) ∙ e))
+pub made-at : (es : List Event) (i : ℕ) (cause : Cause) (t : Nanos) → firstDue es ≡ At i cause t → moment.At t ≡ madeBy es
+made-at [] i cause t e = let z : _≡_ {A = ℕ} 0 1 = cc in absurd (omega arith)
+made-at (f ∷ es) i cause t e = let s : f .time ≡ t = cc in sym (ap moment.At s)
+
+-- ---- the first of the events that are due, and the others
 
 module _ (l : List Status) (k : ℕ) (there : k < length l) where
   -- the slots that are Pending once slot k is Ready: those that were, but for slot k

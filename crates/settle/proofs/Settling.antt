@@ -16,12 +16,13 @@ use Rattle.readiness.specs.declared.Status.{Status}
 use Rattle.readiness.specs.Status.{ready, readyPhase, allReadyFrom, allReady, entryOf}
 use Rattle.readiness.specs.Events.{Event, due, frsOfSlot, frsOf}
 use Rattle.readiness.specs.Root.{Root, nothingOwed, drsArrives, frsArrive}
+use Rattle.readiness.specs.inner.Phases.{notes}
 use Rattle.readiness.specs.Settle.{Scene, happens, drsDue, tells, settles}
 use Rattle.readiness.proofs.Order.{phaseBy, readyBy, due-length}
 use Rattle.readiness.proofs.Scenes.{tells-statuses, settled-statuses}
 use Rattle.readiness.proofs.AtTheEnd.{allHappen, settlesAtEnd, settle-at-end}
 use Rattle.settle.specs.inner.Next.{dueBy, waits, someWaits}
-use Rattle.settle.specs.inner.Prepared.{downFrom, numbers, slotOf}
+use Rattle.settle.specs.inner.Prepared.{downFrom, numbers, slotOf, timeNumber}
 use Rattle.settle.proofs.Scan.{First, first-due}
 use Rattle.settle.proofs.Insertion.{down-length, numbers-length}
 
@@ -55,6 +56,19 @@ none-left slots j all p z = go all (ap (downFrom slots) (sym z) ∙ p)
     go [] q = refl
     go (f ∷ es) q = let o : _≡_ {A = ℕ} 0 1 = cc in absurd (omega arith)
 
+-- and their ready times
+abbrev pub LeftTimes : (times : List ℕ) → (n : ℕ) → List Event → Type 0
+LeftTimes times n es = downFrom times n ≡ numbers timeNumber es
+
+time-at : (times : List ℕ) (i : ℕ) (e : Event) (es : List Event) → LeftTimes times (suc i) (e ∷ es) → (getD times i 0 ≡ e .time .0) × LeftTimes times i es
+unfolding downFrom numbers
+time-at times i e es n = (cc, cc)
+
+pub next-time : (times : List ℕ) (j : ℕ) (all : List Event) (e : Event) (es : List Event) → LeftTimes times j all → all ≡ e ∷ es → 0 < j → (getD times (j - 1) 0 ≡ e .time .0) × LeftTimes times (j - 1) es
+next-time times j all e es p q h =
+    let z : j ≡ suc (j - 1) = omega arith in
+    time-at times (j - 1) e es (subst (λ (n : ℕ). LeftTimes times n (e ∷ es)) z (p ∙ ap (numbers timeNumber) q))
+
 -- at most as many as there are slots
 pub left-most : (clock : Nanos) (l : List Status) (slots : List ℕ) (j : ℕ) → Left slots j (due clock l) → length l ≤ 32 → j ≤ 32
 left-most clock l slots j p n = omega (arith, down-length slots j, ap length p, numbers-length slotOf (due clock l), due-length 0 clock l)
@@ -74,6 +88,16 @@ module _ (setup : Setup) (clock : Nanos) (s : Scene) (slots : List ℕ) (i : ℕ
 
   pub next-left : (l : List Status) → l ≡ set (s .statuses) slot ready → Left slots i (due clock l)
   next-left l put = subst (Left slots i) (left ∙ ap (due clock) (sym put)) (k .left)
+
+  pub next-times : (l : List Status) → l ≡ set (s .statuses) slot ready → (times : List ℕ) (n : ℕ) → LeftTimes times n (k .others) → LeftTimes times n (due clock l)
+  next-times l put times n = subst (LeftTimes times n) (left ∙ ap (due clock) (sym put))
+
+  -- its ready time is noted, and what is left to note is the others'
+  pub notes-on : (l : List Status) → l ≡ set (s .statuses) slot ready → (m same m′ : List ℕ) (t : ℕ) → t ≡ k .first .time .0 → same ≡ m → m′ ≡ set same slot t → notes (due clock l) m′ ≡ notes (due clock (s .statuses)) m
+  unfolding notes
+  notes-on l put m same m′ t e u q =
+      ap₂ notes (ap (due clock) put ∙ sym left) (q ∙ (λ j. set (u j) (k .slot j) (e j)))
+      ∙ sym (ap (λ (es : List Event). notes es m) (k .is))
 
   module _ (l : List Status) (r : Root) (put : l ≡ set (s .statuses) slot ready)
       (arrives : (cause : Cause) (time : Nanos) → getD (s .statuses) slot ready .phase ≡ Pending cause time → r ≡ frsArrive (frsOfSlot (setup .bus) (entryOf setup slot) slot cause) (s .root)) where

@@ -1,11 +1,12 @@
-// Slot statuses as numbers, three to a slot: the phase with its cause, the ready time, and the end of an FLR. They are lent as a slice of numbers,
-// and changed in place.
+// Slot statuses as numbers, four to a slot: the phase with its cause, the ready time, the end of an FLR, and the moment at which the slot last became
+// Ready, which is no part of its status. They are lent as a slice of numbers, and changed in place.
 ghost use mathlib.Core.Path.{_≡_};
 ghost use Prim.Native.Nat.{_<_};
 ghost use lib.ListN.{length, getD, set};
 ghost use Rattle.readiness.specs.Status.{ready};
-ghost use Rattle.readiness.specs.inner.Phases.{statusOf, statusesIn};
+ghost use Rattle.readiness.specs.inner.Phases.{statusOf, statusesIn, momentsIn, notesAt};
 use readiness::Cause;
+use readiness::Moment;
 use readiness::Phase;
 use readiness::Status;
 use times::Nanos;
@@ -40,7 +41,7 @@ pub fn status_at(phases: &[u64], i: usize) -> Status
     requires { ⌜ i < length (statusesIn (now phases)) ⌝ }
     ensures { λ r. ⌜ r ≡ getD (statusesIn (now (phases .entry))) i ready ⌝ }
 {
-    let at = 3 * i;
+    let at = 4 * i;
     status_of(phases[at], phases[at + 1], phases[at + 2])
 }
 
@@ -48,8 +49,9 @@ pub fn status_at(phases: &[u64], i: usize) -> Status
 pub fn put_status(phases: &mut [u64], i: usize, status: Status)
     requires { ⌜ i < length (statusesIn (now phases)) ⌝ }
     ensures { λ _. ⌜ statusesIn (now (phases .exit)) ≡ set (statusesIn (now (phases .entry))) i status ⌝ }
+    ensures { λ _. ⌜ momentsIn (now (phases .exit)) ≡ momentsIn (now (phases .entry)) ⌝ }
 {
-    let at = 3 * i;
+    let at = 4 * i;
     let phase = status.phase;
     match phase {
         Phase::Down => {
@@ -76,11 +78,32 @@ pub fn put_status(phases: &mut [u64], i: usize, status: Status)
     }
 }
 
+// The moment at which slot i last became Ready.
+pub fn put_moment(phases: &mut [u64], i: usize, moment_ns: u64)
+    requires { ⌜ i < length (statusesIn (now phases)) ⌝ }
+    ensures { λ _. ⌜ statusesIn (now (phases .exit)) ≡ statusesIn (now (phases .entry)) ⌝ }
+    ensures { λ _. ⌜ momentsIn (now (phases .exit)) ≡ set (momentsIn (now (phases .entry))) i «moment_ns» ⌝ }
+{
+    phases[4 * i + 3] = moment_ns;
+}
+
+// The same, if the slot became Ready.
+pub fn note(phases: &mut [u64], i: usize, made: Moment)
+    requires { ⌜ i < length (statusesIn (now phases)) ⌝ }
+    ensures { λ _. ⌜ statusesIn (now (phases .exit)) ≡ statusesIn (now (phases .entry)) ⌝ }
+    ensures { λ _. ⌜ momentsIn (now (phases .exit)) ≡ notesAt made i (momentsIn (now (phases .entry))) ⌝ }
+{
+    match made {
+        Moment::Never => {}
+        Moment::At(time) => put_moment(phases, i, times::nanos_number(time)),
+    }
+}
+
 // The numbers of 32 statuses.
-pub fn in_numbers(statuses: [Status; 32]) -> [u64; 96]
+pub fn in_numbers(statuses: [Status; 32]) -> [u64; 128]
     ensures { λ r. ⌜ statusesIn r ≡ statuses ⌝ }
 {
-    let mut phases = [0u64; 96];
+    let mut phases = [0u64; 128];
     let mut i: usize = 0;
     while i < 32 {
         let s = statuses[i];
@@ -90,8 +113,8 @@ pub fn in_numbers(statuses: [Status; 32]) -> [u64; 96]
     phases
 }
 
-// The statuses of 96 numbers.
-pub fn in_statuses(phases: [u64; 96]) -> [Status; 32]
+// The statuses of 128 numbers.
+pub fn in_statuses(phases: [u64; 128]) -> [Status; 32]
     ensures { λ r. ⌜ r ≡ statusesIn phases ⌝ }
 {
     let mut statuses = [Status {

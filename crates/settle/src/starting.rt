@@ -5,7 +5,7 @@ ghost use lib.ListN.{length};
 ghost use Rattle.times.specs.Codes.{nanosOf};
 ghost use Rattle.times.specs.Moments.{sumOf};
 ghost use Rattle.readiness.specs.Status.{pending, startedByLinkUp, stoppedByReset, startedByFlr, startedByD3hot, afterLinkUp, afterReset, afterLinkDown, afterColdReset};
-ghost use Rattle.readiness.specs.inner.Phases.{statusesIn};
+ghost use Rattle.readiness.specs.inner.Phases.{statusesIn, momentsIn};
 use crate::phases::put_status;
 use bits::at_most;
 use readiness::Cause;
@@ -31,6 +31,7 @@ fn link_up_status(clock: Nanos, entry: Slot) -> Status
 pub fn start_all(setup: Setup, dev: Dev, phases: &mut [u64])
     requires { ⌜ (setup .slots ≤ 32) × (length (statusesIn (now phases)) ≡ setup .slots) ⌝ }
     ensures { λ _. ⌜ statusesIn (now (phases .exit)) ≡ startedByLinkUp setup dev (statusesIn (now (phases .entry))) ⌝ }
+    ensures { λ _. ⌜ momentsIn (now (phases .exit)) ≡ momentsIn (now (phases .entry)) ⌝ }
 {
     let clock = dev.clock;
     let mut i: usize = 0;
@@ -69,6 +70,7 @@ pub fn reset_statuses(setup: Setup, dev: Dev, statuses: [Status; 32]) -> [Status
 pub fn stop_all(setup: Setup, dev: Dev, phases: &mut [u64])
     requires { ⌜ length (statusesIn (now phases)) ≡ setup .slots ⌝ }
     ensures { λ _. ⌜ statusesIn (now (phases .exit)) ≡ stoppedByReset setup dev (statusesIn (now (phases .entry))) ⌝ }
+    ensures { λ _. ⌜ momentsIn (now (phases .exit)) ≡ momentsIn (now (phases .entry)) ⌝ }
 {
     let mut i: usize = 0;
     while i < setup.slots {

@@ -2,7 +2,7 @@
 ghost use mathlib.Core.Path.{_≡_};
 ghost use mathlib.Core.Bool.{false};
 ghost use Prim.Native.Nat.{_+_, _≤_};
-ghost use Rattle.sheet_grammar.specs.Layout.{byteAt, digitsAt, numberFits, nextPlace, numberAt, isUnitLetter, unitOf, unitBytes, unitAt, lineFrom, noLine, numberIn, unitIn, faultIn};
+ghost use Rattle.sheet_grammar.specs.Layout.{byteAt, digitsAt, numberFits, nextPlace, numberUpTo, numberAt, isUnitLetter, unitOf, unitBytes, unitAt, lineFrom, noLine, numberIn, unitIn, faultIn};
 use sheet_grammar::Digits;
 use sheet_grammar::Fault;
 use sheet_grammar::LineRead;
@@ -24,16 +24,17 @@ fn byte_at(s: &[u8], at: usize) -> u8
     if at < s.len() { s[at] } else { 0 }
 }
 
-// The digits at a place, eleven at the most.
-fn digits_at(s: &[u8], at: usize) -> Digits
-    ensures { λ r. ⌜ r ≡ digitsAt at (now (s .entry)) ⌝ }
+// The digits at a place, one more than `most` at the most.
+fn digits_at(s: &[u8], at: usize, most: usize) -> Digits
+    requires { ⌜ most ≤ 16 ⌝ }
+    ensures { λ r. ⌜ r ≡ digitsAt most at (now (s .entry)) ⌝ }
 {
     let mut count: usize = 0;
     let mut number: u64 = 0;
     let mut i = at;
     while i < s.len() {
         let digit = digit_of(false, s[i]);
-        if (count <= MOST_DIGITS) & (digit < NO_DIGIT) {
+        if (count <= most) & (digit < NO_DIGIT) {
             number = number * 10 + (digit as u64);
             count += 1;
             i += 1;
@@ -51,45 +52,49 @@ fn digits_at(s: &[u8], at: usize) -> Digits
 }
 
 // Whether so many digits are a number, with this byte after them.
-fn number_fits(count: usize, after: u8) -> bool
-    ensures { λ r. ⌜ r ≡ numberFits count after ⌝ }
+fn number_fits(most: usize, count: usize, after: u8) -> bool
+    ensures { λ r. ⌜ r ≡ numberFits most count after ⌝ }
 {
-    (1 <= count) & (count <= MOST_DIGITS) & (after == 0x20)
+    (1 <= count) & (count <= most) & (after == 0x20)
 }
 
-// The first byte that is wrong: the one after the digits, or the eleventh digit.
-fn first_wrong(at: usize, count: usize) -> usize
+// The first byte that is wrong: the one after the digits, or the first digit too many.
+fn first_wrong(most: usize, at: usize, count: usize) -> usize
     requires { ⌜ at + count ≤ 18446744073709551615 ⌝ }
-    ensures { λ r. ⌜ r ≡ nextPlace at count false ⌝ }
+    ensures { λ r. ⌜ r ≡ nextPlace most at count false ⌝ }
 {
-    if count <= MOST_DIGITS {
-        at + count
-    } else {
-        at + MOST_DIGITS
-    }
+    if count <= most { at + count } else { at + most }
 }
 
-// A number at a place, and the space after it.
-fn number_at(s: &[u8], at: usize) -> NumberRead
-    ensures { λ r. ⌜ r ≡ numberAt at (now (s .entry)) ⌝ }
+// A number of 1 to `most` digits at a place, and the space after it.
+pub fn number_up_to(s: &[u8], at: usize, most: usize) -> NumberRead
+    requires { ⌜ most ≤ 16 ⌝ }
+    ensures { λ r. ⌜ r ≡ numberUpTo most at (now (s .entry)) ⌝ }
 {
-    let d = digits_at(s, at);
+    let d = digits_at(s, at, most);
     let count = d.count;
     let number = d.number;
     let end = at + count;
-    if number_fits(count, byte_at(s, end)) {
+    if number_fits(most, count, byte_at(s, end)) {
         return NumberRead {
             fits: true,
             number: number,
             next: end + 1,
         };
     }
-    let next = first_wrong(at, count);
+    let next = first_wrong(most, at, count);
     NumberRead {
         fits: false,
         number: number,
         next: next,
     }
+}
+
+// A number of a sheet at a place, and the space after it.
+fn number_at(s: &[u8], at: usize) -> NumberRead
+    ensures { λ r. ⌜ r ≡ numberAt at (now (s .entry)) ⌝ }
+{
+    number_up_to(s, at, MOST_DIGITS)
 }
 
 // 'n', 'u' or 'm'.
@@ -122,7 +127,7 @@ fn unit_bytes(s: &[u8], at: usize) -> usize
 }
 
 // A unit at a place, and the byte 0Ah after it.
-fn unit_at(s: &[u8], at: usize) -> UnitRead
+pub fn unit_at(s: &[u8], at: usize) -> UnitRead
     ensures { λ r. ⌜ r ≡ unitAt at (now (s .entry)) ⌝ }
 {
     let n = unit_bytes(s, at);
@@ -186,7 +191,7 @@ pub fn line_of(s: &[u8]) -> LineRead
 pub fn number_in(s: &[u8]) -> NumberRead
     ensures { λ r. ⌜ r ≡ numberIn (now (s .entry)) ⌝ }
 {
-    let d = digits_at(s, 0);
+    let d = digits_at(s, 0, MOST_DIGITS);
     let n = s.len();
     NumberRead {
         fits: (1 <= d.count) & (d.count <= MOST_DIGITS) & (d.count == n),

@@ -7,6 +7,8 @@ pub use doubts::doubt;
 pub use layout::fault_in;
 pub use layout::line_of;
 pub use layout::number_in;
+pub use layout::number_up_to;
+pub use layout::unit_at;
 pub use layout::unit_in;
 pub use reading::line_naming;
 pub use reading::place_after;

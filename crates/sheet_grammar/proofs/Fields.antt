@@ -16,8 +16,8 @@ use Rattle.text_fields.specs.Text.{digitOf}
 use Rattle.sheet_grammar.specs.declared.Digits.{Digits}
 use Rattle.sheet_grammar.specs.declared.NumberRead.{NumberRead}
 use Rattle.sheet_grammar.specs.declared.UnitRead.{UnitRead}
-use Rattle.sheet_grammar.specs.Layout.{isDigit, space, lineEnd, mostDigits, byteAt, digitsFrom, digitsAt, numberFits, nextPlace, numberAt, isUnitLetter, unitOf, unitBytes, unitAt}
-use Rattle.sheet_grammar.specs.Grammar.{Decimal, Number, UnitName}
+use Rattle.sheet_grammar.specs.Layout.{isDigit, space, lineEnd, byteAt, digitsFrom, digitsAt, numberFits, nextPlace, numberUpTo, isUnitLetter, unitOf, unitBytes, unitAt}
+use Rattle.sheet_grammar.specs.Grammar.{Decimal, NumberUpTo, UnitName}
 use Rattle.sheet_grammar.specs.Grammar.Decimal.{done, digit}
 use Rattle.sheet_grammar.specs.Grammar.UnitName.{ns, us, ms}
 
@@ -131,40 +131,40 @@ abbrev numberRead : (number next : ℕ) → NumberRead
 numberRead number next = record { fits = true; number = number; next = next }
 
 -- a number by the digits at its place
-numberBy : (at : ℕ) (s : List ℕ) → Digits → NumberRead
-numberBy at s d =
-    let fits = numberFits (d .count) (byteAt (at + d .count) s) in
-    record { fits = fits; number = d .number; next = nextPlace at (d .count) fits }
+numberBy : (most at : ℕ) (s : List ℕ) → Digits → NumberRead
+numberBy most at s d =
+    let fits = numberFits most (d .count) (byteAt (at + d .count) s) in
+    record { fits = fits; number = d .number; next = nextPlace most at (d .count) fits }
 
 -- a number of the grammar and a space after it are read as that number
-pub number-read : {at next n : ℕ} {s text : List ℕ} → Number text n → Stands at next s (text ++ (space ∷ [])) → numberAt at s ≡ numberRead n next
-unfolding numberAt numberBy numberFits nextPlace
-number-read {at} {next} {n} {s} {text} is here =
+pub number-read : {most at next n : ℕ} {s text : List ℕ} → NumberUpTo most text n → Stands at next s (text ++ (space ∷ [])) → numberUpTo most at s ≡ numberRead n next
+unfolding numberUpTo numberBy numberFits nextPlace
+number-read {most} {at} {next} {n} {s} {text} is here =
     let size : ℕ = length text in
     let e : drop at s ≡ text ++ (space ∷ drop next s) = here .whole ∙ append-assoc text (space ∷ []) (drop next s) in
-    let d : digitsAt at s ≡ counted size n =
-    ap (digitsFrom (suc mostDigits) 0 0) e ∙ digits-read (suc mostDigits) 0 (drop next s) (is .digits) (omega (arith, is .most))
+    let d : digitsAt most at s ≡ counted size n =
+    ap (digitsFrom (suc most) 0 0) e ∙ digits-read (suc most) 0 (drop next s) (is .digits) (omega (arith, is .most))
     ∙ ap (λ (c : ℕ). counted c n) (omega arith) in
-    let fits : numberFits size (byteAt (at + size) s) ≡ true =
-    both (leb 1 size && leb size mostDigits) (eqb (byteAt (at + size) s) space)
-    (both (leb 1 size) (leb size mostDigits) (le-leb 1 size (is .some)) (le-leb size mostDigits (is .most)))
+    let fits : numberFits most size (byteAt (at + size) s) ≡ true =
+    both (leb 1 size && leb size most) (eqb (byteAt (at + size) s) space)
+    (both (leb 1 size) (leb size most) (le-leb 1 size (is .some)) (le-leb size most (is .most)))
     (eq-eqb (byteAt (at + size) s) space (byte-after at s text (space ∷ drop next s) e)) in
     let end : suc (at + size) ≡ next = omega (arith, here .end, length-append text (space ∷ [])) in
-    ap (numberBy at s) d
-    ∙ ap (λ (t : Bool). record { fits = t; number = n; next = nextPlace at size t }) fits
+    ap (numberBy most at s) d
+    ∙ ap (λ (t : Bool). record { fits = t; number = n; next = nextPlace most at size t }) fits
     ∙ ap (numberRead n) end
 
 -- what is read as a number is one of the grammar, with a space after it
-pub number-found : (at : ℕ) (s : List ℕ) → numberAt at s .fits ≡ true → FieldFound (λ t. Number t (numberAt at s .number)) space at (numberAt at s .next) s
-unfolding numberAt numberFits nextPlace
-number-found at s fits =
-    let d : Digits = digitsAt at s in
-    let r : Digital 0 0 (drop at s) d = digits-found (suc mostDigits) 0 0 (drop at s) in
+pub number-found : (limit at : ℕ) (s : List ℕ) → numberUpTo limit at s .fits ≡ true → FieldFound (λ t. NumberUpTo limit t (numberUpTo limit at s .number)) space at (numberUpTo limit at s .next) s
+unfolding numberUpTo numberFits nextPlace
+number-found limit at s fits =
+    let d : Digits = digitsAt limit at s in
+    let r : Digital 0 0 (drop at s) d = digits-found (suc limit) 0 0 (drop at s) in
     let size : d .count ≡ length (r .text) = omega (arith, r .size) in
-    let many = leb 1 (d .count) && leb (d .count) mostDigits in
+    let many = leb 1 (d .count) && leb (d .count) limit in
     let ends = eqb (byteAt (at + d .count) s) space in
-    let some : 1 ≤ d .count = leb-true 1 (d .count) (both-left (leb 1 (d .count)) (leb (d .count) mostDigits) (both-left many ends fits)) in
-    let most : d .count ≤ mostDigits = leb-true (d .count) mostDigits (both-right (leb 1 (d .count)) (leb (d .count) mostDigits) (both-left many ends fits)) in
+    let some : 1 ≤ d .count = leb-true 1 (d .count) (both-left (leb 1 (d .count)) (leb (d .count) limit) (both-left many ends fits)) in
+    let most : d .count ≤ limit = leb-true (d .count) limit (both-right (leb 1 (d .count)) (leb (d .count) limit) (both-left many ends fits)) in
     let byte : getD (r .rest) 0 0 ≡ space =
     sym (byte-after at s (r .text) (r .rest) (r .whole)) ∙ ap (λ (n : ℕ). byteAt (at + n) s) (sym size)
     ∙ eqb-true (byteAt (at + d .count) s) space (both-right many ends fits) in

@@ -15,8 +15,8 @@ use Rattle.sheet_grammar.specs.declared.SheetLine.{SheetLine}
 use Rattle.sheet_grammar.specs.declared.NumberRead.{NumberRead}
 use Rattle.sheet_grammar.specs.declared.UnitRead.{UnitRead}
 use Rattle.sheet_grammar.specs.declared.LineRead.{LineRead}
-use Rattle.sheet_grammar.specs.Layout.{isDigit, space, lineEnd, claim, numberAt, unitAt, noLine, lineFrom}
-use Rattle.sheet_grammar.specs.Grammar.{Decimal, Number, UnitName, Line}
+use Rattle.sheet_grammar.specs.Layout.{isDigit, space, lineEnd, claim, mostDigits, numberAt, unitAt, noLine, lineFrom}
+use Rattle.sheet_grammar.specs.Grammar.{Decimal, NumberUpTo, UnitName, Line}
 use Rattle.sheet_grammar.specs.Grammar.Decimal.{done, digit}
 use Rattle.sheet_grammar.specs.Grammar.UnitName.{ns, us, ms}
 use Rattle.sheet_grammar.specs.Grammar.Line.{line}
@@ -124,11 +124,11 @@ line-found s e =
     let e4 = both-left four (d3hot .fits) e5 in
     let e3 = both-left three (flr .fits) e4 in
     let e2 = both-left two (dlUp .fits) e3 in
-    let a = number-found 0 s (both-left (slot .fits) (reset .fits) e2) in
-    let b = number-found (slot .next) s (both-right (slot .fits) (reset .fits) e2) in
-    let c = number-found (reset .next) s (both-right two (dlUp .fits) e3) in
-    let d = number-found (dlUp .next) s (both-right three (flr .fits) e4) in
-    let f = number-found (flr .next) s (both-right four (d3hot .fits) e5) in
+    let a = number-found mostDigits 0 s (both-left (slot .fits) (reset .fits) e2) in
+    let b = number-found mostDigits (slot .next) s (both-right (slot .fits) (reset .fits) e2) in
+    let c = number-found mostDigits (reset .next) s (both-right two (dlUp .fits) e3) in
+    let d = number-found mostDigits (dlUp .next) s (both-right three (flr .fits) e4) in
+    let f = number-found mostDigits (flr .next) s (both-right four (d3hot .fits) e5) in
     let g = unit-found (d3hot .next) s (both-right five (u .fits) six) in
     let all = joined (a .text) space _ (a .here) (joined (b .text) space _ (b .here) (joined (c .text) space _ (c .here)
     (joined (d .text) space _ (d .here) (joined (f .text) space _ (f .here) (g .here))))) in
@@ -163,11 +163,11 @@ pub line-some : {first : List ℕ} {l : SheetLine} → Line first l → 1 ≤ le
 line-some (line {slot = slot} isSlot isReset isDlUp isFlr isD3hot isUnit) = some-more slot _ (isSlot .some)
 
 -- bytes that are the first line of every text that starts with them
-abbrev Ends : List ℕ → Type 0
+abbrev pub Ends : List ℕ → Type 0
 Ends first = (more : List ℕ) → linesOf (first ++ more) ≡ first ∷ linesOf more
 
 -- 0Ah alone
-end-ends : Ends (lineEnd ∷ [])
+pub end-ends : Ends (lineEnd ∷ [])
 unfolding linesOf
 end-ends more = refl
 
@@ -187,11 +187,11 @@ digits-end done h = h
 digits-end (digit {b = b} e d) h = byte-ends b (digit-inside b e) (digits-end d h)
 
 -- a number and a space in front
-number-ends : {n : ℕ} {s t : List ℕ} → Number s n → Ends t → Ends (s ++ (space ∷ t))
+pub number-ends : {most n : ℕ} {s t : List ℕ} → NumberUpTo most s n → Ends t → Ends (s ++ (space ∷ t))
 number-ends is h = digits-end (is .digits) (byte-ends space refl h)
 
 -- a unit in front
-unit-ends : {s t : List ℕ} {u : Unit} → UnitName s u → Ends t → Ends (s ++ t)
+pub unit-ends : {s t : List ℕ} {u : Unit} → UnitName s u → Ends t → Ends (s ++ t)
 unit-ends ns h = byte-ends 0x6E refl (byte-ends 0x73 refl h)
 unit-ends us h = byte-ends 0x75 refl (byte-ends 0x73 refl h)
 unit-ends ms h = byte-ends 0x6D refl (byte-ends 0x73 refl h)
@@ -204,11 +204,11 @@ lines-first more (line isSlot isReset isDlUp isFlr isD3hot isUnit) =
 -- ---- the first line of any text
 
 -- a text cut after its first line
-record Cut (s : List ℕ) : Type 0 where
-  line : List ℕ
-  rest : List ℕ
-  cut : linesOf s ≡ line ∷ linesOf rest
-  text : s ≡ line ++ rest
+pub record Cut (s : List ℕ) : Type 0 where
+  pub line : List ℕ
+  pub rest : List ℕ
+  pub cut : linesOf s ≡ line ∷ linesOf rest
+  pub text : s ≡ line ++ rest
 
 -- at 0Ah
 cut-end : (b : ℕ) (t : List ℕ) → isLineEnd b ≡ true → Cut (b ∷ t)
@@ -232,7 +232,7 @@ cut-more b r e =
     }
 
 -- any text that isn't empty can be cut so
-cut-first : (b : ℕ) (t : List ℕ) → Cut (b ∷ t)
+pub cut-first : (b : ℕ) (t : List ℕ) → Cut (b ∷ t)
 cut-first b [] = split (isLineEnd b) (cut-end b []) (cut-last b)
 cut-first b (c ∷ t) = split (isLineEnd b) (cut-end b (c ∷ t)) (cut-more b (cut-first c t))
 

@@ -22,11 +22,15 @@ pub data Decimal : (before : ℕ) → List ℕ → ℕ → Type 0 where
   done : {n : ℕ} → Decimal n [] n
   digit : {before n b : ℕ} {s : List ℕ} → isDigit b ≡ true → Decimal (before * 10 + digitOf false b) s n → Decimal before (b ∷ s) n
 
--- 1 to 10 digits
-pub record Number (s : List ℕ) (n : ℕ) : Type 0 where
+-- 1 to so many digits
+pub record NumberUpTo (limit : ℕ) (s : List ℕ) (n : ℕ) : Type 0 where
   pub digits : Decimal 0 s n
   pub some : 1 ≤ length s
-  pub most : length s ≤ mostDigits
+  pub most : length s ≤ limit
+
+-- 1 to 10 digits
+abbrev pub Number : List ℕ → ℕ → Type 0
+Number s n = NumberUpTo mostDigits s n
 
 -- small letters
 pub data UnitName : List ℕ → Unit → Type 0 where

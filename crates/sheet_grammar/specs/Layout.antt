@@ -42,25 +42,29 @@ digitsFrom (suc more) count number [] = record { count = count; number = number 
 digitsFrom (suc more) count number (b ∷ s) =
     cond (isDigit b) (digitsFrom more (suc count) (number * 10 + digitOf false b) s) (record { count = count; number = number })
 
--- the digits at a place, eleven at the most
-abbrev pub digitsAt : ℕ → List ℕ → Digits
-digitsAt at s = digitsFrom (suc mostDigits) 0 0 (drop at s)
+-- the digits at a place, one more than `most` at the most
+abbrev pub digitsAt : (most at : ℕ) → List ℕ → Digits
+digitsAt most at s = digitsFrom (suc most) 0 0 (drop at s)
 
 -- so many digits, and a space after them
-unfoldable pub numberFits : (count after : ℕ) → Bool
-numberFits count after = leb 1 count && leb count mostDigits && eqb after space
+unfoldable pub numberFits : (most count after : ℕ) → Bool
+numberFits most count after = leb 1 count && leb count most && eqb after space
 
 -- the place after digits and a space; where they don't fit, that of the first byte that is wrong: the one after the digits, or
--- the eleventh digit
-unfoldable pub nextPlace : (at count : ℕ) (fits : Bool) → ℕ
-nextPlace at count fits = cond fits (suc (at + count)) (at + cond (leb count mostDigits) count mostDigits)
+-- the first digit too many
+unfoldable pub nextPlace : (most at count : ℕ) (fits : Bool) → ℕ
+nextPlace most at count fits = cond fits (suc (at + count)) (at + cond (leb count most) count most)
 
--- a number and the space after it
-unfoldable pub numberAt : ℕ → List ℕ → NumberRead
-numberAt at s =
-    let d = digitsAt at s in
-    let fits = numberFits (d .count) (byteAt (at + d .count) s) in
-    record { fits = fits; number = d .number; next = nextPlace at (d .count) fits }
+-- a number of 1 to `most` digits and the space after it
+unfoldable pub numberUpTo : (most at : ℕ) → List ℕ → NumberRead
+numberUpTo most at s =
+    let d = digitsAt most at s in
+    let fits = numberFits most (d .count) (byteAt (at + d .count) s) in
+    record { fits = fits; number = d .number; next = nextPlace most at (d .count) fits }
+
+-- a number of a sheet
+abbrev pub numberAt : ℕ → List ℕ → NumberRead
+numberAt at s = numberUpTo mostDigits at s
 
 -- ---- units
 
@@ -119,7 +123,7 @@ lineFrom s =
 -- the whole text is a number of 1 to 10 digits
 unfoldable pub numberIn : List ℕ → NumberRead
 numberIn s =
-    let d = digitsAt 0 s in
+    let d = digitsAt mostDigits 0 s in
     record { fits = leb 1 (d .count) && leb (d .count) mostDigits && eqb (d .count) (length s); number = d .number; next = d .count }
 
 -- the whole text is ns, us or ms

@@ -47,7 +47,7 @@ unknown-size kind e = le-ltb 0 (sizeOf kind) (omega arith)
 
 -- ---- what stands next, by the size that the first byte tells
 -- a whole record
-next-whole : (bs : List ℕ) (n : ℕ) → sizeOf (getD bs 0 0) ≡ n → 0 < n → n ≤ length bs → (next bs ≡ complete (take n bs)) × (length (take n bs) ≡ n)
+pub next-whole : (bs : List ℕ) (n : ℕ) → sizeOf (getD bs 0 0) ≡ n → 0 < n → n ≤ length bs → (next bs ≡ complete (take n bs)) × (length (take n bs) ≡ n)
 unfolding next
 next-whole [] n e h j = absurd (omega arith)
 next-whole (k ∷ rest) n e h j =

@@ -8,6 +8,7 @@ pub mod OneCall
 pub mod Refusing
 pub mod Theorem
 pub mod Loop
+pub mod Fronts
 pub mod Rejoin
 pub mod Examples
 pub mod Laws

@@ -52,16 +52,6 @@ pub fn back(random: &mut Random) -> Ticks {
     Ticks(random.pick(&[edge, edge, any]))
 }
 
-/// A record that may follow a stamp.
-fn record(random: &mut Random, bench: &Bench) -> Vec<u8> {
-    loop {
-        let record = records::any(random, bench);
-        if record[0] != ADVANCE {
-            return record;
-        }
-    }
-}
-
 /// Another kind byte at which a call goes on.
 pub fn other_kind(random: &mut Random) -> u8 {
     let unknown = records::unknown_kind(random);
@@ -117,10 +107,26 @@ impl<'a> Capture<'a> {
         let record = match ends {
             true if random.chance(50) => records::advance(random.below(100) as u32),
             true => vec![records::unknown_kind(random)],
-            false => record(random, &self.scout),
+            false => records::any_but_advance(random, &self.scout),
         };
         self.over |= ends || step.is_back(Fault::None);
         self.push(step.stamp, &record);
+    }
+
+    /// The bench that has run what the capture stands for so far.
+    pub fn bench(&self) -> &Bench<'a> {
+        &self.scout
+    }
+
+    /// Ticks to a moment that matters, or next to it.
+    pub fn ticks_near(&self, random: &mut Random) -> u32 {
+        ticks_near(random, &self.scout)
+    }
+
+    /// Adds a stamp by this difference and this record.
+    pub fn add_record(&mut self, random: &mut Random, ticks: Ticks, record: &[u8]) {
+        let step = self.stamp_by(random, ticks);
+        self.push(step.stamp, record);
     }
 
     /// Adds so many records; now and then one at which the replay ends or breaks, and one or two after it.
@@ -146,8 +152,7 @@ impl<'a> Capture<'a> {
         }
         for record in records {
             let ticks = random.pick(&[0, 0, 1, 300, 251_658_240, 1_073_741_824]);
-            let step = self.stamp_by(random, Ticks(ticks));
-            self.push(step.stamp, &record);
+            self.add_record(random, Ticks(ticks), &record);
         }
     }
 }
@@ -168,7 +173,7 @@ fn rest_of_begun(random: &mut Random, bench: &Bench) -> Vec<u8> {
         stamp = any_stamp(random).to_bytes();
     }
     let mut rest = stamp[usize::from(replay.taken).min(STAMP_BYTES)..].to_vec();
-    rest.extend(record(random, bench));
+    rest.extend(records::any_but_advance(random, bench));
     rest
 }
 

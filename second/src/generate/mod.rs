@@ -3,6 +3,7 @@
 pub mod captures;
 pub mod cards;
 mod damage;
+pub mod lateness;
 mod messages;
 pub mod records;
 mod replays;
@@ -19,7 +20,7 @@ use script::Script;
 /// The case with this number of this seed.
 pub fn case(seed: u64, number: u64) -> Case {
     let mut random = Random::for_case(seed, number);
-    match random.weighted(&[140, 160, 280, 375, 40, 50, 5, 60, 80, 160, 140, 130, 4]) {
+    match random.weighted(&[140, 160, 280, 375, 40, 50, 5, 60, 80, 160, 140, 130, 4, 130, 6]) {
         0 => bad_set_up(&mut random),
         1 => unsound_state(&mut random),
         2 => made_up_state(&mut random),
@@ -32,8 +33,15 @@ pub fn case(seed: u64, number: u64) -> Case {
         9 => captures_and_traces(&mut random),
         10 => lent_replay(&mut random),
         11 => captures_alone(&mut random),
-        _ => long_capture(&mut random),
+        12 => long_capture(&mut random),
+        13 => lateness_alone(&mut random),
+        _ => long_lists(&mut random),
     }
+}
+
+/// The case with this number of this seed that is made of lists, and of replays with reports, alone.
+pub fn case_of_lateness(seed: u64, number: u64) -> Case {
+    lateness_alone(&mut Random::for_case(seed.rotate_left(32), number))
 }
 
 /// The case with this number of this seed that is made of captures alone.
@@ -52,6 +60,7 @@ pub enum Of {
     Everything,
     Sheets,
     Captures,
+    Lateness,
 }
 
 impl Of {
@@ -61,6 +70,7 @@ impl Of {
             Of::Everything => case(seed, number),
             Of::Sheets => case_of_sheets(seed, number),
             Of::Captures => case_of_captures(seed, number),
+            Of::Lateness => case_of_lateness(seed, number),
         }
     }
 }
@@ -88,6 +98,7 @@ fn bad_set_up(random: &mut Random) -> Case {
         script.feed_something(random);
         if random.chance(50) {
             script.replay_on_any_state(random);
+            script.lateness(random);
         }
         if random.chance(30) {
             script.set_up();
@@ -105,6 +116,7 @@ fn unsound_state(random: &mut Random) -> Case {
         script.feed_something(random);
         if random.chance(40) {
             script.replay_on_any_state(random);
+            script.lateness(random);
         }
         if random.chance(25) {
             script.set_up();
@@ -235,8 +247,14 @@ fn captures_and_traces(random: &mut Random) -> Case {
             script.between_replays(random);
             let records = 1 + random.below(8);
             script.replay_capture(random, records);
+            if random.chance(50) {
+                script.lateness(random);
+            }
         }
         script.after_the_end(random);
+        if random.chance(30) {
+            script.lateness(random);
+        }
     })
 }
 
@@ -248,6 +266,9 @@ fn lent_replay(random: &mut Random) -> Case {
             script.lend_replay_state(random);
             let records = random.below(4);
             script.replay_capture(random, records);
+            if random.chance(40) {
+                script.lateness(random);
+            }
         }
         script.after_the_end(random);
     })
@@ -284,5 +305,39 @@ fn captures_alone(random: &mut Random) -> Case {
             script.replay_capture(random, records);
         }
         script.after_the_end(random);
+    })
+}
+
+/// Lists as long as lists may be, or nearly, or a little longer, with nothing lent.
+fn long_lists(random: &mut Random) -> Case {
+    let setup = setups::with_nothing_lent(random);
+    let lists = (0..3).map(|_| lateness::long_list(random));
+    let operations = lists.map(Operation::Totals).collect();
+    Case { setup, operations }
+}
+
+/// Lists, and replays with reports after them, on small set-ups; some ten of both a case.
+fn lateness_alone(random: &mut Random) -> Case {
+    let bad = random.chance(4);
+    let setup = if bad { setups::quick_and_bad(random) } else { setups::quick(random) };
+    finish(setup, |script| {
+        script.set_up();
+        if bad {
+            return script.reports_on_refused(random);
+        }
+        while script.replays_and_lists() < 10 {
+            if random.chance(35) {
+                script.totals(random);
+                continue;
+            }
+            if random.chance(50) {
+                script.between_ways(random);
+                if random.chance(30) {
+                    script.lateness(random);
+                }
+            }
+            script.replay_ways(random);
+            script.lateness(random);
+        }
     })
 }

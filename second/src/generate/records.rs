@@ -182,6 +182,16 @@ pub fn any(random: &mut Random, bench: &Bench) -> Vec<u8> {
     }
 }
 
+/// Any record but an advance, fitting the state more often than not.
+pub fn any_but_advance(random: &mut Random, bench: &Bench) -> Vec<u8> {
+    loop {
+        let record = any(random, bench);
+        if record[0] != ADVANCE {
+            return record;
+        }
+    }
+}
+
 /// Any record, whatever the state.
 pub fn plain(random: &mut Random) -> Vec<u8> {
     match random.below(7) {

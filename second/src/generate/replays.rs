@@ -2,7 +2,7 @@
 
 use crate::generate::captures::{self, Capture};
 use crate::generate::script::{most_pieces, Script};
-use crate::generate::{records, states};
+use crate::generate::{lateness, records, states};
 use crate::random::Random;
 use crate::replay::{Replay, STAMP_BYTES};
 use crate::run::Gave;
@@ -17,10 +17,11 @@ impl Script<'_> {
         self.operations.iter().filter(is_replay).count()
     }
 
-    /// Lends a replay state; half the time with something in the bytes that are ignored in reading.
-    fn lend_replay(&mut self, random: &mut Random, replay: Replay) {
+    /// Lends a replay state with moments; half the time with something in the bytes that are ignored in reading.
+    pub(super) fn lend_replay(&mut self, random: &mut Random, replay: Replay) {
         let noise = if random.chance(50) { random.u64() } else { 0 };
-        self.push(Operation::LendReplay { replay, noise });
+        let replay = Replay { moments: lateness::moments(random, &self.bench), ..replay };
+        self.push(Operation::LendReplay { replay: Box::new(replay), noise });
     }
 
     /// Lends a replay state that matches the port, if any does.
@@ -81,7 +82,7 @@ impl Script<'_> {
         }
     }
 
-    fn can_replay(&self) -> bool {
+    pub(super) fn can_replay(&self) -> bool {
         let refused = self.bench.feed_refusal().is_some() || self.bench.replay_does_not_match();
         !refused && !self.bench.state.port.broken && self.bench.replay.ended == 0
     }
@@ -122,9 +123,14 @@ impl Script<'_> {
     }
 
     /// Replays a capture, cut anywhere, with rooms that may be short; after a 30 now and then another kind byte follows.
-    fn replay_pieces(&mut self, random: &mut Random, mut capture: Vec<u8>) {
+    fn replay_pieces(&mut self, random: &mut Random, capture: Vec<u8>) {
         let most = most_pieces(self.setup());
         let pieces = random.pick(&[1, 2, 3, 4, most]).min(most);
+        self.replay_in(random, capture, pieces);
+    }
+
+    /// The same in so many pieces.
+    pub(super) fn replay_in(&mut self, random: &mut Random, mut capture: Vec<u8>, pieces: usize) {
         let mut from = 0;
         for piece in 0..pieces {
             let left = capture.len() - from;

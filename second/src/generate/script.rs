@@ -101,7 +101,7 @@ impl<'a> Script<'a> {
         self.push(Operation::Feed { room, input });
     }
 
-    fn can_run(&self) -> bool {
+    pub(super) fn can_run(&self) -> bool {
         self.bench.feed_refusal().is_none() && !self.bench.state.port.broken
     }
 

@@ -11,6 +11,11 @@ const EDGE_CODES: [u16; 20] = [
     0x000, 0x001, 0x002, 0x005, 0x00A, 0x1FF, 0x200, 0x201, 0x220, 0x3FF, 0x400, 0x401, 0x85F,
     0x860, 0x9FF, 0xA00, 0xA02, 0xA03, 0xA1D, 0xA1E,
 ];
+/// Codes of 0 ns, and of times that a few ticks reach.
+const QUICK_CODES: [u16; 14] = [
+    0x000, 0x000, 0x000, 0x200, 0x001, 0x004, 0x005, 0x00A, 0x00A, 0x014, 0x1FF, 0x220, 0x860,
+    0xA03,
+];
 const BAD_CODES: [u16; 8] = [0xA1F, 0xA20, 0xAFF, 0xBFF, 0xC00, 0xFFF, 0x1000, 0xFFFF];
 
 fn code(random: &mut Random) -> Code {
@@ -118,6 +123,40 @@ pub fn small(random: &mut Random) -> Setup {
         entries: entries(random, slots),
         defaults: defaults(random, slots),
     }
+}
+
+/// A set-up that nothing refuses, with a small image and times that are often 0 or tie.
+pub fn quick(random: &mut Random) -> Setup {
+    let slots = random.pick(&[1, 1, 2, 2, 3, 4]);
+    let mut setup = Setup {
+        slots: slots as u8,
+        statuses: slots,
+        live_words: slots * WORDS_PER_SLOT,
+        cells: 1 + random.below(4),
+        defaults: defaults(random, slots),
+        ..small(random)
+    };
+    for entry in &mut setup.entries[..slots] {
+        let mut next = || match random.chance(90) {
+            true => Code(random.pick(&QUICK_CODES)),
+            false => code(random),
+        };
+        (entry.reset, entry.dl_up) = (next(), next());
+        (entry.flr, entry.d3hot) = (next(), next());
+    }
+    setup
+}
+
+/// A quick set-up with one thing wrong, or counting other slots than it lends memory for.
+pub fn quick_and_bad(random: &mut Random) -> Setup {
+    let mut setup = quick(random);
+    match random.below(5) {
+        0 => setup.cells = 0,
+        1 => spoil_codes(&mut setup, random),
+        2 => spoil_defaults(&mut setup, random),
+        _ => super::lateness::counting_others(random, &mut setup),
+    }
+    setup
 }
 
 /// A set-up with a small image and one thing wrong.

@@ -1,5 +1,6 @@
 //! Which replay states match the port's carried bytes and the advances due, clause by clause.
 
+use super::faulty_moments::moments_do_not_match;
 use super::{Replay, Step, ADVANCE_CAPTURED, STAMP_BYTES, WENT_BACK};
 use crate::bench::Bench;
 use crate::faults::Fault;
@@ -103,6 +104,10 @@ impl Bench<'_> {
     pub fn replay_does_not_match(&self) -> bool {
         let (replay, port, fault) = (&self.replay, &self.state.port, self.fault);
         let broken = |clause| !fault.lets_through(clause) && breaks(clause, replay, port, fault);
-        CLAUSES.iter().any(|(clause, _)| broken(*clause)) || asks_too_much(replay, port, fault)
+        let of_moments =
+            moments_do_not_match(&replay.moments, &self.state, self.setup.slot_count(), fault);
+        CLAUSES.iter().any(|(clause, _)| broken(*clause))
+            || asks_too_much(replay, port, fault)
+            || of_moments
     }
 }

@@ -1,19 +1,23 @@
 //! Replay of captures: stamped records, fed as the trace that they stand for.
 
 mod faulty;
+mod faulty_moments;
 mod matching;
+mod moments;
 pub mod reached;
 mod stamps;
 #[cfg(test)]
 mod tests;
 
 pub use matching::{broken_clauses, Clause, CLAUSES, NEVER_ALONE};
+pub use moments::{Made, Moments, Running};
 pub use stamps::{Stamp, Step, Ticks, BACK, NANOSECONDS_PER_TICK};
 
 use crate::bench::Bench;
 use crate::faults::Fault;
 use crate::feed::{Fed, ANSWER_LENGTH};
 use crate::records::{record_length, ADVANCE};
+use crate::setup::MOST_SLOTS;
 
 pub const STAMP_BYTES: usize = 4;
 /// The recorder went back.
@@ -34,11 +38,19 @@ pub struct Replay {
     pub answered: u8,
     /// 0, or the number by which the replay ended, 32 or 33. Any byte may be lent.
     pub ended: u8,
+    /// When the replay last made each slot Ready. Any moment may be lent, in slots past the set-up's count too.
+    pub moments: Moments,
 }
 
 impl Replay {
-    pub const FRESH: Replay =
-        Replay { earlier: None, taken: 0, bytes: [0; STAMP_BYTES], answered: 0, ended: 0 };
+    pub const FRESH: Replay = Replay {
+        earlier: None,
+        taken: 0,
+        bytes: [0; STAMP_BYTES],
+        answered: 0,
+        ended: 0,
+        moments: [None; MOST_SLOTS],
+    };
 
     /// The stamp whose kind byte is next, with the one before it; none without 4 stamp bytes.
     pub fn step(&self, fault: Fault) -> Option<Step> {
@@ -86,7 +98,7 @@ enum Asked {
 
 const ORDER: [Asked; 5] = [Asked::SetUp, Asked::Port, Asked::Match, Asked::Ended, Asked::Broken];
 
-/// What a replay call gives, with the stamps whose kind byte it consumed (for coverage).
+/// What a replay call gives, with the stamps whose kind byte it consumed (for coverage; what became Ready is in `fed`).
 #[derive(Clone, PartialEq, Eq, Debug)]
 pub struct Replayed {
     pub fed: Fed,
@@ -124,9 +136,13 @@ impl Bench<'_> {
         let mut replayed = Replayed { fed: Fed::start(), steps: Vec::new() };
         if let Some(number) = self.replay_refusal(input) {
             self.leave_refused(number);
+            self.leave_refused_moments(number);
             replayed.fed.number = number;
             return replayed;
         }
+        let (moments, statuses) = (self.replay.moments, self.state.statuses.clone());
+        self.begin_call(true);
+        self.begin_moments();
         for byte in input {
             if let Some(number) = self.replay_byte(*byte, room, &mut replayed) {
                 replayed.fed.number = number;
@@ -135,6 +151,8 @@ impl Bench<'_> {
             replayed.fed.consumed += 1;
         }
         self.leave_replay(room, &mut replayed.fed);
+        self.leave_moments(replayed.fed.number, &moments, &statuses);
+        replayed.fed.made = self.end_call();
         replayed
     }
 

@@ -103,7 +103,9 @@ fn a_capture_is_replayed() {
     assert_eq!(gives(&mut bench, 40, &bytes), (0, 20, 40));
     assert_eq!(bench.state.port.clock, Nanos(12));
     assert!(bench.state.all_ready());
-    assert_eq!(bench.replay, Replay { earlier: Some(Stamp(2)), ..Replay::FRESH });
+    let mut moments = Replay::FRESH.moments;
+    moments[..setup.slot_count()].fill(Some(Nanos(10)));
+    assert_eq!(bench.replay, Replay { earlier: Some(Stamp(2)), moments, ..Replay::FRESH });
     assert_eq!(answers::replayed(&setup, &bytes, Fault::None).len(), 40);
 }
 

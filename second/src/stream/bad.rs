@@ -31,10 +31,13 @@ pub enum Bad {
     ReplayRoom,
     ReplayInput,
     Begun,
+    Made,
+    Seen,
+    ListLength,
     Cut,
 }
 
-pub const WAYS: [(Bad, &str); 30] = [
+pub const WAYS: [(Bad, &str); 33] = [
     (Bad::NoVersion, "no version at all"),
     (Bad::Version, "another version"),
     (Bad::Statuses, "more than 32 statuses"),
@@ -64,5 +67,8 @@ pub const WAYS: [(Bad, &str); 30] = [
     (Bad::ReplayRoom, "more room than 4,096 bytes for a replay"),
     (Bad::ReplayInput, "a capture of more than 4,096 bytes"),
     (Bad::Begun, "a begun byte above 1"),
+    (Bad::Made, "a made Ready byte above 1"),
+    (Bad::Seen, "a seen byte above 1"),
+    (Bad::ListLength, "a list of more than 9,100 differences"),
     (Bad::Cut, "a cut stream"),
 ];

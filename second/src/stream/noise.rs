@@ -28,7 +28,7 @@ impl Noise {
         self.random.as_mut().map_or(0, Random::u32)
     }
 
-    /// A time that a status has no use for.
+    /// A time that a status has no use for, or that of a slot that was not made Ready or not seen.
     pub fn time(&mut self) -> u64 {
         let Some(random) = &mut self.random else {
             return 0;

@@ -3,14 +3,15 @@
 use std::io::{self, Read};
 
 use super::{
-    Bad, Operation, MOST_BYTES, MOST_MESSAGE, MOST_STATUSES, MOST_STREAM_CELLS, MOST_WORDS, VERSION,
+    Bad, Operation, MOST_BYTES, MOST_LISTED, MOST_MESSAGE, MOST_STATUSES, MOST_STREAM_CELLS,
+    MOST_WORDS, VERSION,
 };
 use crate::faults::Fault;
 use crate::landed::{Landed, LANDED, NO_PARENT};
-use crate::replay::{Replay, Stamp, STAMP_BYTES};
+use crate::replay::{Moments, Replay, Stamp, STAMP_BYTES};
 use crate::setup::{Setup, SlotEntry, MOST_SLOTS};
 use crate::state::{Cause, Port, State, Status, MOST_CARRIED};
-use crate::times::{Code, Nanos};
+use crate::times::{Code, Nanos, LAST_MOMENT};
 
 /// Why a stream could not be read on.
 #[derive(Debug)]
@@ -191,7 +192,9 @@ impl<R: Read> Source<R> {
             0x03 => Operation::Lend { state: Box::new(self.image(setup)?), noise: 0 },
             0x04 => self.sheet()?,
             0x06 => self.capture()?,
-            0x07 => Operation::LendReplay { replay: self.replay()?, noise: 0 },
+            0x07 => Operation::LendReplay { replay: Box::new(self.replay(setup)?), noise: 0 },
+            0x08 => Operation::Lateness { seen: Box::new(self.seen()?), noise: 0 },
+            0x09 => self.list()?,
             0x0D => self.message_to_write()?,
             0x0E => self.message_to_read()?,
             _ => return Err(Trouble::BadCase(Bad::NotLanded)),
@@ -220,7 +223,7 @@ impl<R: Read> Source<R> {
     }
 
     /// What a replay state has no use for is ignored: an earlier stamp without begun, stamp bytes past the count.
-    fn replay(&mut self) -> Read1<Replay> {
+    fn replay(&mut self, setup: &Setup) -> Read1<Replay> {
         let begun = self.yes_no(Bad::Begun)?;
         let earlier = self.u32()?;
         let taken = self.u8()?;
@@ -234,7 +237,50 @@ impl<R: Read> Source<R> {
             past.fill(0);
         }
         let earlier = begun.then_some(Stamp(earlier));
-        Ok(Replay { earlier, taken, bytes, answered, ended })
+        let moments = self.moments(setup.slot_count())?;
+        Ok(Replay { earlier, taken, bytes, answered, ended, moments })
+    }
+
+    /// The moments of a replay image; before Q-7 there are none.
+    fn moments(&mut self, count: usize) -> Read1<Moments> {
+        let mut moments = [None; MOST_SLOTS];
+        if !self.landed.lateness {
+            return Ok(moments);
+        }
+        for (slot, moment) in moments.iter_mut().enumerate() {
+            *moment = self.time(Bad::Made, Fault::MomentNotMadeTaken, Fault::MomentNotMadeBad)?;
+            let bad = match self.fault {
+                Fault::MomentPastLastBad => moment.is_some_and(|moment| moment > LAST_MOMENT),
+                Fault::MomentPastCountBad => moment.is_some() && slot >= count,
+                _ => false,
+            };
+            ensure(!bad, Bad::Made)?;
+        }
+        Ok(moments)
+    }
+
+    /// Whether a time is there, and the time, which is ignored if it isn't.
+    fn time(&mut self, bad: Bad, taken: Fault, refused: Fault) -> Read1<Option<Nanos>> {
+        let there = self.yes_no(bad)?;
+        let time = self.u64()?;
+        ensure(self.fault != refused || there || time == 0, bad)?;
+        let counts = there || self.fault == taken && time != 0;
+        Ok(counts.then_some(Nanos(time)))
+    }
+
+    fn seen(&mut self) -> Read1<[Option<Nanos>; MOST_SLOTS]> {
+        let mut seen = [None; MOST_SLOTS];
+        for time in &mut seen {
+            *time = self.time(Bad::Seen, Fault::LatenessNotSeenTaken, Fault::LatenessNotSeenBad)?;
+        }
+        Ok(seen)
+    }
+
+    fn list(&mut self) -> Read1<Operation> {
+        let refused = usize::from(self.fault == Fault::TotalsOf9100Bad);
+        let count = self.length(MOST_LISTED - refused, Bad::ListLength)?;
+        let list: Read1<Vec<i64>> = (0..count).map(|_| Ok(self.u64()? as i64)).collect();
+        Ok(Operation::Totals(list?))
     }
 
     /// What only a faulty reader refuses in a replay image.
@@ -373,6 +419,19 @@ mod tests {
             change(&mut case.setup);
             assert!(front(&case, Landed::NOTHING).is_err());
             assert_eq!(front(&case, landed).unwrap(), case.setup);
+        }
+    }
+
+    #[test]
+    fn a_replay_image_has_moments_once_lateness_has_landed() {
+        let (setup, bytes) = (generate::case(4, 1).setup, [1; 300]);
+        let before = Landed { lateness: false, ..LANDED };
+        for (landed, length, moment) in [(before, 12, None), (LANDED, 300, Some(Nanos(0x0101)))] {
+            let mut bytes = bytes;
+            bytes[15..21].fill(0);
+            let mut source = Source { inner: &bytes[..], landed, fault: Fault::None };
+            let replay = source.replay(&setup).unwrap();
+            assert_eq!((bytes.len() - source.inner.len(), replay.moments[0]), (length, moment));
         }
     }
 

@@ -2,11 +2,13 @@
 
 use super::noise::Noise;
 use super::{Case, Operation};
-use crate::landed::NO_PARENT;
+use crate::landed::{LANDED, NO_PARENT};
+use crate::lateness::{Difference, Differences, Seen, Totals, OUTSIDE};
 use crate::replay::Replay;
 use crate::setup::{Setup, SlotEntry};
 use crate::sheets::Taken;
 use crate::state::{Cause, Port, State, Status, MOST_CARRIED};
+use crate::times::Nanos;
 
 fn put_words(words: &[u32], out: &mut Vec<u8>) {
     out.reserve(words.len() * 4);
@@ -67,6 +69,8 @@ fn put_operation(operation: &Operation, out: &mut Vec<u8>) {
             out.push(0x07);
             put_replay_with(replay, &mut Noise::new(*noise), out);
         }
+        Operation::Lateness { seen, noise } => put_seen(seen, &mut Noise::new(*noise), out),
+        Operation::Totals(list) => put_list(list, out),
         Operation::Sheet(text) => {
             out.push(0x04);
             out.extend((text.len() as u16).to_le_bytes());
@@ -99,6 +103,48 @@ fn put_replay_with(replay: &Replay, noise: &mut Noise, out: &mut Vec<u8>) {
         out.push(if there { *byte } else { *byte | noise.byte() });
     }
     out.extend([replay.answered, replay.ended]);
+    if LANDED.lateness {
+        replay.moments.iter().for_each(|moment| put_time(*moment, noise, out));
+    }
+}
+
+/// Whether a time is there, and the time.
+fn put_time(time: Option<Nanos>, noise: &mut Noise, out: &mut Vec<u8>) {
+    out.push(u8::from(time.is_some()));
+    let when = time.map_or_else(|| noise.time(), |time| time.0);
+    out.extend(when.to_le_bytes());
+}
+
+fn put_seen(seen: &Seen, noise: &mut Noise, out: &mut Vec<u8>) {
+    out.push(0x08);
+    seen.iter().for_each(|time| put_time(*time, noise, out));
+}
+
+fn put_list(list: &[i64], out: &mut Vec<u8>) {
+    out.push(0x09);
+    out.extend((list.len() as u16).to_le_bytes());
+    list.iter().for_each(|one| out.extend(one.to_le_bytes()));
+}
+
+/// Writes what came of a report by slot.
+pub fn put_differences(differences: &Differences, out: &mut Vec<u8>) {
+    for difference in differences {
+        let (what, difference) = match difference {
+            Difference::None => (0, 0),
+            Difference::Of(difference) => (1, *difference),
+            Difference::Outside => (OUTSIDE, 0),
+        };
+        out.push(what);
+        out.extend(i64::to_le_bytes(difference));
+    }
+}
+
+/// Writes what a list comes to.
+pub fn put_totals(totals: &Totals, out: &mut Vec<u8>) {
+    let Totals { number, early, on_time, late, least, greatest, sum } = *totals;
+    out.push(number);
+    out.extend([early, on_time, late].map(u32::to_le_bytes).concat());
+    out.extend([least, greatest, sum].map(i64::to_le_bytes).concat());
 }
 
 /// Writes what came of a sheet: number, line, and the four codes of each entry.

@@ -1,4 +1,4 @@
--- A state where the statuses are numbers, three to a slot.
+-- A state where the statuses are numbers, four to a slot.
 use Prim.Native.Nat.{ℕ, _*_, _≤_}
 use mathlib.Core.Path.{_≡_}
 use mathlib.Core.List.{List}

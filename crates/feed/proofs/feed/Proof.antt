@@ -64,10 +64,10 @@ returns-2 c =
     let a = c .before .before .before .before .before .before .before .before .before .before .before .before .before .before .before .before .before .before .before .before .before .args in
     let x = c .before .before .before .before .before .before .before .before .before .feed-in-place in
     let numbers = c .before .before .before .before .before .before .before .before .before .before .before .before .before .before .in-numbers in
-    let n : length (numbers .result) ≡ 96 = search needs in
+    let n : length (numbers .result) ≡ 128 = search needs in
     ap (λ (l : List Status). left (a .lent) (record { number = x .result .number; consumed = x .result .consumed; written = x .result .written; port = x .result .port; statuses = l }) (x .last .1 .1 .1 .0) (x .last .1 .1 .1 .1 .1 .0) (x .last .1 .1 .1 .1 .1 .1 .1 .0))
     (c .in-statuses .ensures)
-    ∙ in-place-lent (a .setup) (now (a .defaults)) (a .lent) (3 * a .lent - 0) (numbers .result) (a .port) (now (a .live)) (now (a .cells)) (now (a .input)) (now (a .answers)) (x .result) (x .last .1 .1 .0) _ _ _ _
+    ∙ in-place-lent (a .setup) (now (a .defaults)) (a .lent) (4 * a .lent - 0) (numbers .result) (a .port) (now (a .live)) (now (a .cells)) (now (a .input)) (now (a .answers)) (x .result) (x .last .1 .1 .0) _ _ _ _
     (omega arith) (omega (arith, n, c .before .before .before .before .before .before .before .before .before .before .before .before .before .before .before .if1 .left)) (omega (arith, c .before .before .before .before .before .before .before .before .phases2 .given, c .before .before .before .before .before .before .before .before .before .before .before .before .before .phases .given .2)) (x .ensures)
     ∙ ap (λ (l : List Status). feeds (a .setup) (now (a .defaults)) (held (a .port) (lentOf (a .lent) l) (now (a .live)) (now (a .cells))) (now (a .input)) (now (a .answers))) (numbers .ensures)
 

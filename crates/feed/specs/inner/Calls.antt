@@ -1,14 +1,18 @@
 -- A call by its parts: how it begins, the record that it completes, and what it gives where it completes none.
-use Prim.Native.Nat.{ℕ, _-_, _<_}
+use Prim.Native.Nat.{ℕ, _-_, _*_, _≤_, _<_}
 use mathlib.Core.Path.{_≡_}
 use mathlib.Core.List.{List, _++_}
-use lib.ListN.{take}
+use lib.ListN.{length, take}
 use lib.Dec.{eqb}
 use Rattle.trace.specs.Format.{pad, next}
 use Rattle.trace.specs.inner.Gathered.{wholeSize, endNumber, endCount}
 use Rattle.trace.specs.Lent.{refusalOr31}
+use Rattle.trace.specs.Exactly.{joinedUp, AllWhole}
 use Rattle.readiness.specs.declared.Setup.{Setup}
+use Rattle.readiness.specs.inner.Phases.{notes}
 use Rattle.records.specs.declared.Port.{Port}
+use Rattle.records.specs.State.{State}
+use Rattle.records.specs.MadeReady.{readiedOver}
 use Rattle.demand3.specs.Held.{Held, carriedOf}
 use Rattle.demand3.specs.Feeding.{bench}
 use Rattle.feed.specs.declared.FedPort.{FedPort}
@@ -45,3 +49,8 @@ pub record Opens (setup : Setup) (defaults : List ℕ) (h : Held) (input : List 
 pub record Rests (number : ℕ) (port : Port) (input : List ℕ) (r : FedPort) : Type 0 where
   pub refused : (number ≡ 0 → ⊥) → r ≡ record { number = number; consumed = 0; written = 0; port = port }
   pub carries : number ≡ 0 → r ≡ carriesOn port input
+
+-- the moments after a call on whole records, with room for all their answers: those of before, with the ready times of all slots that they make Ready
+abbrev pub NotesRecords : Setup → (defaults : List ℕ) → State → (input : List ℕ) → (room : ℕ) → (moments after : List ℕ) → Type 0
+NotesRecords setup defaults s input room moments after =
+    (records : List (List ℕ)) → AllWhole records → input ≡ joinedUp records → 8 * length records ≤ room → after ≡ notes (readiedOver setup defaults s records) moments

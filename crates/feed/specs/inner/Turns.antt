@@ -14,6 +14,8 @@ use Rattle.readiness.specs.declared.Setup.{Setup}
 use Rattle.records.specs.State.{State}
 use Rattle.records.specs.Answer.{answerBytes}
 use Rattle.records.specs.Run.{run}
+use Rattle.records.specs.MadeReady.{readied}
+use Rattle.readiness.specs.inner.Phases.{notes}
 use Rattle.records.specs.Sound.{Sound, Fitting}
 use Rattle.records.specs.inner.Parts.{partOf}
 use Rattle.feed.specs.declared.Turn.{Turn}
@@ -37,3 +39,7 @@ pub record Turned (setup : Setup) (defaults : List ℕ) (s : State) (r : Record)
 -- so it is in every sound state
 abbrev pub TakesTurn : (setup : Setup) (defaults : List ℕ) (s : State) (r : Record) (answers : List ℕ) (at : ℕ) (t : State) (after : List ℕ) → Type 0
 TakesTurn setup defaults s r answers at t after = Sound setup s → Fitting setup defaults s → Turned setup defaults s r answers at t after
+
+-- and the moments that it leaves are those of before, with the ready times of the slots that the record makes Ready
+abbrev pub NotesTurn : (setup : Setup) (defaults : List ℕ) (s : State) (r : Record) (moments after : List ℕ) → Type 0
+NotesTurn setup defaults s r moments after = Sound setup s → Fitting setup defaults s → after ≡ notes (readied setup defaults s r) moments

@@ -1,7 +1,7 @@
 -- A record by the part of the state that it touches: one slot, the root port alone, or the whole card.
 use Prim.Native.Nat.{ℕ}
 use mathlib.Core.Bool.{Bool, true, false, cond}
-use mathlib.Core.List.{List}
+use mathlib.Core.List.{List, []}
 use lib.Dec.{ltb}
 use lib.ListN.{set}
 use Rattle.registers.specs.declared.Kind.{Kind}
@@ -9,6 +9,7 @@ use Rattle.frs_queue.specs.Queue.{noTally}
 use Rattle.readiness.specs.declared.Slot.{Slot}
 use Rattle.readiness.specs.declared.Setup.{Setup}
 use Rattle.readiness.specs.declared.Status.{Status}
+use Rattle.readiness.specs.Events.{Event, dueEvent}
 use Rattle.readiness.specs.inner.OneSlot.{slotSettles}
 use Rattle.records.specs.declared.Record.{Record}
 use Rattle.records.specs.declared.Record.the-variants.{Advance, Read, Write, Message, LinkUp, LinkDown, ColdReset, ReadQueue, RemoveOldest, ClearBits, Control, HardwareSet, ReadBits, NoKind}
@@ -70,6 +71,11 @@ slotAnswered bus entry slot z (refused completion dataWord) = record { after = z
 slotAnswered bus entry slot z (does y tally dataWord) =
     let x = slotSettles bus entry slot (record { status = y .status; root = record { dev = y .dev; cells = y .cells; tally = tally } }) in
     record { after = seat (x .root .dev) (x .status) (y .live) (x .root .cells); reply = reply completion.Done (x .root .tally) dataWord }
+
+-- it, if it does
+abbrev pub slotReadied : (slot : ℕ) → Effect Seat → List Event
+slotReadied slot (refused completion dataWord) = []
+slotReadied slot (does y tally dataWord) = dueEvent (y .dev .clock) slot (y .status .phase)
 
 unfoldable pub slotRun : (slots : ℕ) → Kind → (bus : ℕ) → Slot → (defaults : List ℕ) → (slot : ℕ) → Record → Seat → Ran Seat
 slotRun slots kind bus entry defaults slot r z = slotAnswered bus entry slot z (slotEffect slots kind entry defaults r z)

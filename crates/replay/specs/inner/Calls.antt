@@ -9,17 +9,15 @@ use Rattle.trace.specs.Lent.{Left}
 use Rattle.readiness.specs.declared.Setup.{Setup}
 use Rattle.readiness.specs.declared.Dev.{Dev}
 use Rattle.records.specs.declared.Port.{Port}
-use Rattle.records.specs.State.{State}
-use Rattle.records.specs.Device.{device}
 use Rattle.capture.specs.declared.Replay.{Replay}
 use Rattle.capture.specs.Advances.{due}
 use Rattle.capture.specs.Replay.{Progress, begins, replayOpen}
 use Rattle.capture.specs.Lent.{progressIn, replayOf, leaves}
 use Rattle.demand3.specs.Held.{opened}
-use Rattle.demand3.specs.Feeding.{bench}
 use Rattle.feed.specs.inner.Calls.{carriesOn}
 use Rattle.replay_state.specs.inner.Moves.{Tidy}
-use Rattle.replay_rules.specs.Replaying.{HeldWith}
+use Rattle.replay_rules.specs.KeepingMoments.{HeldNoting, notingBench}
+use Rattle.replay.specs.inner.Noted.{Noted, notingDevice}
 use Rattle.replay.specs.declared.Stretch.{Stretch}
 use Rattle.replay.specs.declared.ReplayedPort.{ReplayedPort}
 
@@ -30,9 +28,9 @@ pub record Between (r : Replay) : Type 0 where
   pub answered : r .answered ≤ length (due (progressIn r .earlier) (progressIn r .stamp))
 
 -- what a call comes to that no number stops, in the state s, with c carried
-abbrev pub comesTo : Setup → (defaults : List ℕ) → State → (c : List ℕ) → Progress → (input answers : List ℕ) → Left HeldWith
+abbrev pub comesTo : Setup → (defaults : List ℕ) → Noted → (c : List ℕ) → Progress → (input answers : List ℕ) → Left HeldNoting
 comesTo setup defaults s c q input answers =
-    leaves (bench setup defaults) (replayOpen (device setup defaults) (record { state = s; carried = c; broken = false }) q (length answers) input) answers
+    leaves (notingBench setup defaults) (replayOpen (notingDevice setup defaults) (record { state = s; carried = c; broken = false }) q (length answers) input) answers
 
 -- where the kind byte is consumed, its stamp is the earlier one
 abbrev pub tookKindOf : Replay → (consumed : ℕ) → Replay

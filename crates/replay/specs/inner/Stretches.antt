@@ -11,8 +11,6 @@ use Rattle.trace.specs.Format.{if_then_else_, Bytes, sizeOf}
 use Rattle.trace.specs.Bench.{Bench, runs}
 use Rattle.trace.specs.Exactly.{joinedUp, AllWhole}
 use Rattle.readiness.specs.declared.Setup.{Setup}
-use Rattle.records.specs.State.{State}
-use Rattle.records.specs.Device.{device}
 use Rattle.capture.specs.declared.Replay.{Replay}
 use Rattle.capture.specs.Advances.{was, stampIn, back, due}
 use Rattle.capture.specs.Replay.{Progress, later, replayOpen}
@@ -22,6 +20,7 @@ use Rattle.replay_state.specs.inner.Moves.{dueOf}
 use Rattle.replay.specs.declared.Step.{Step}
 use Rattle.replay.specs.declared.Stretch.{Stretch}
 use Rattle.replay.specs.declared.Entry.{Entry}
+use Rattle.replay.specs.inner.Noted.{Noted, notingDevice}
 use Rattle.replay.specs.inner.Steps.{stepOf}
 use Rattle.replay.specs.inner.Calls.{Between}
 
@@ -46,7 +45,7 @@ pub record StandsNext (before : Stamp) (input : List ℕ) (at space room : ℕ) 
 
 -- ---- Records, written out
 -- a bench with nothing carried
-abbrev pub openIn : State → Bench State
+abbrev pub openIn : Noted → Bench Noted
 openIn s = record { state = s; carried = []; broken = false }
 
 -- WHOLE RECORDS that lead a replay from q at byte `at` of the input to q′ at byte at′: their bytes, and how many bytes of answers they have. Replay, in any
@@ -60,8 +59,8 @@ pub record WrittenOut (q : Progress) (space at : ℕ) (input : List ℕ) (q′ :
   pub room : answers ≤ space
   pub from : at ≤ at′
   pub to : at′ ≤ length input
-  pub goes : (setup : Setup) (defaults : List ℕ) (s : State)
-      → (let D = device setup defaults in
+  pub goes : (setup : Setup) (defaults : List ℕ) (s : Noted)
+      → (let D = notingDevice setup defaults in
       let x = runs D s records in
       replayOpen D (openIn s) q space (drop at input)
       ≡ later (at′ - at) (x .answer) (replayOpen D (openIn (x .state)) q′ (space - answers) (drop at′ input)))

@@ -25,7 +25,7 @@ use Rattle.run_in_pieces.proofs.feed_pieces.Tie as tie
 abbrev Inv-loop : tie.InvT-loop
 Inv-loop setup live₀ defaults cells₀ trace size answers₀ table port₀ phases₀ places number₀ consumed₀ written₀ live cells answers port phases number consumed written =
     SoFar setup defaults size trace (inPieces setup defaults size 0 (held port₀ (lentOf (setup .slots) (statusesIn phases₀)) live₀ cells₀) trace answers₀) number consumed written (held port (lentOf (setup .slots) (statusesIn phases)) live cells) answers
-    × (length live ≡ length live₀) × (length cells ≡ length cells₀) × (length answers ≡ length answers₀) × (length trace < 2 ^ 64) × (length answers₀ < 2 ^ 64) × (length phases ≡ 96)
+    × (length live ≡ length live₀) × (length cells ≡ length cells₀) × (length answers ≡ length answers₀) × (length trace < 2 ^ 64) × (length answers₀ < 2 ^ 64) × (length phases ≡ 128)
 
 abbrev μ-loop : tie.MeasureT-loop
 μ-loop setup live₀ defaults cells₀ trace size answers₀ table port₀ phases₀ places number₀ consumed₀ written₀ live cells answers port phases number consumed written =
@@ -57,7 +57,7 @@ called : (g : tie.After-phases2 Inv-loop μ-loop) → let l = head (g .before) i
       number = x .result .number;
       consumed = x .result .consumed;
       written = x .result .written;
-      held = held (x .result .port) (lentOf (a .setup .slots) (statusesIn (x .last .1 .1 .1 .0 ++ drop (3 * a .setup .slots - 0) (l .loop .phases)))) (x .last .1 .1 .1 .1 .0) (x .last .1 .1 .1 .1 .1 .1 .0);
+      held = held (x .result .port) (lentOf (a .setup .slots) (statusesIn (x .last .1 .1 .1 .0 ++ drop (4 * a .setup .slots - 0) (l .loop .phases)))) (x .last .1 .1 .1 .1 .0) (x .last .1 .1 .1 .1 .1 .1 .0);
       answers = x .last .1 .1 .1 .1 .1 .1 .1 .1 .0;
     })
     (feeds (a .setup) (now (a .defaults)) (held (l .loop .port) (lentOf (a .setup .slots) (statusesIn (l .loop .phases))) (l .loop .live) (l .loop .cells))
@@ -66,7 +66,7 @@ called g =
     let l = head (g .before) in
     let a = entry l .args in
     let x = g .before .feed-lent in
-    in-place-lent (a .setup) (now (a .defaults)) (a .setup .slots) (3 * a .setup .slots - 0) (l .loop .phases) (l .loop .port) (l .loop .live) (l .loop .cells) _ _ (x .result) (x .last .1 .1 .1 .0) (drop (3 * a .setup .slots - 0) (l .loop .phases)) _ _ _
+    in-place-lent (a .setup) (now (a .defaults)) (a .setup .slots) (4 * a .setup .slots - 0) (l .loop .phases) (l .loop .port) (l .loop .live) (l .loop .cells) _ _ (x .result) (x .last .1 .1 .1 .0) (drop (4 * a .setup .slots - 0) (l .loop .phases)) _ _ _
     (omega arith) (omega (arith, l .loop .inv .6, entry l .pre)) (omega (arith, g .phases2 .given, g .before .before .before .before .before .before .phases .given .2)) (x .ensures)
 
 attributes-requires : tie.Need-attributes-requires Inv-loop μ-loop
@@ -182,8 +182,8 @@ loop-again c =
     (l .loop .inv .0) (f .before .before .before .before .before .before .before .before .if1 .taken) (f .before .before .before .before .before .before .before .before .before .loop-test .taken) (f .before .before .before .before .before .before .before .next-piece .result) _ (f .before .before .before .before .before .before .before .next-piece .ensures) refl _ (called g)
     in
     let ys = f .feed-lent .last .1 .1 .1 .0 in
-    let rest = drop (3 * a .setup .slots - 0) (l .loop .phases) in
-    let long : length (ys ++ rest) ≡ 96 = omega (arith, length-append ys rest, length-drop (3 * a .setup .slots - 0) (l .loop .phases), g .phases2 .given, g .before .before .before .before .before .before .phases .given .2, l .loop .inv .6, entry l .pre) in (
+    let rest = drop (4 * a .setup .slots - 0) (l .loop .phases) in
+    let long : length (ys ++ rest) ≡ 128 = omega (arith, length-append ys rest, length-drop (4 * a .setup .slots - 0) (l .loop .phases), g .phases2 .given, g .before .before .before .before .before .before .phases .given .2, l .loop .inv .6, entry l .pre) in (
       t .next,
       omega (arith, c .before .before .before .before .before .before .before .before .live .given, l .loop .inv .1),
       omega (arith, c .before .before .before .before .before .before .cells .given, l .loop .inv .2),

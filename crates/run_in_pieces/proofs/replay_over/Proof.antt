@@ -51,6 +51,9 @@ returns c =
 fresh-requires : tie.Need-fresh-requires
 fresh-requires c κs = search needs
 
+no-moments-requires : tie.Need-no-moments-requires
+no-moments-requires c κs = search needs
+
 replay-requires : tie.Need-replay-requires
 replay-requires c κs = search needs
 
@@ -58,23 +61,23 @@ all-fed-requires-2 : tie.Need-all-fed-requires-2
 all-fed-requires-2 c κs = search needs
 
 same-length-3 : tie.Need-same-length-3
-same-length-3 c = omega (arith, c .before .before .before .before .before .before .before .before .live2 .given, c .before .before .before .before .before .before .before .before .before .before .before .before .before .before .before .before .before .before .before .before .before .live .given)
+same-length-3 c = omega (arith, c .before .before .before .before .before .before .before .before .live2 .given, c .before .before .before .before .before .before .before .before .before .before .before .before .before .before .before .before .before .before .before .before .before .before .live .given)
 
 same-length-4 : tie.Need-same-length-4
-same-length-4 c = omega (arith, c .before .before .before .before .before .before .cells2 .given, c .before .before .before .before .before .before .before .before .before .before .before .before .before .before .before .before .before .before .before .cells .given)
+same-length-4 c = omega (arith, c .before .before .before .before .before .before .cells2 .given, c .before .before .before .before .before .before .before .before .before .before .before .before .before .before .before .before .before .before .before .before .cells .given)
 
 same-length-5 : tie.Need-same-length-5
 same-length-5 c = search needs
 
 returns-2 : tie.Need-returns-2
 returns-2 c =
-    let s = c .before .before .before .before .before .before .before .before .before .before .before .before .before .before .before .before .before .before .before .before .before .before in
+    let s = c .before .before .before .before .before .before .before .before .before .before .before .before .before .before .before .before .before .before .before .before .before .before .before in
     let a = entry s .args in
     rw (c .all-fed2 .ensures)
     (ap atPort
-    (c .before .before .before .before .before .before .before .before .before .replay .ensures
-    ∙ ap (λ (m : Replay). replays (a .setup) (now (a .defaults)) (heldWith (leaves s .held) m) (now (a .capture)) (now (a .answers))) (c .before .before .before .before .before .before .before .before .before .before .before .before .before .fresh .ensures))
-    ∙ accepted (a .setup) (now (a .defaults)) (lent s) (leaves s) (now (a .capture)) (now (a .answers)) (made s) (c .before .before .before .before .before .before .before .before .before .before .before .before .before .before .if1 .left))
+    (c .before .before .before .before .before .before .before .before .before .replay .ensures .0
+    ∙ ap (λ (m : Replay). replays (a .setup) (now (a .defaults)) (heldWith (leaves s .held) m) (now (a .capture)) (now (a .answers))) (c .before .before .before .before .before .before .before .before .before .before .before .before .before .before .fresh .ensures))
+    ∙ accepted (a .setup) (now (a .defaults)) (lent s) (leaves s) (now (a .capture)) (now (a .answers)) (made s) (c .before .before .before .before .before .before .before .before .before .before .before .before .before .before .before .if1 .left))
 
 pub replay-over-spec : {M : Type 1} → statement M
 replay-over-spec =
@@ -86,6 +89,7 @@ replay-over-spec =
     same-length-2
     returns
     fresh-requires
+    no-moments-requires
     replay-requires
     all-fed-requires-2
     same-length-3

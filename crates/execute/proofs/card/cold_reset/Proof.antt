@@ -25,7 +25,7 @@ returns : tie.Need-returns
 unfolding coldResetEffect
 returns c =
     let stopped = c .before .before .before in
-    (λ cells. alike cells (c .after-cold-reset .ensures) (stopped .stop-all .ensures) (stopped .before .before .before .before .cold-reset .ensures), refl)
+    (λ cells. alike cells (c .after-cold-reset .ensures) (stopped .stop-all .ensures .0) (stopped .before .before .before .before .cold-reset .ensures), (refl, stopped .stop-all .ensures .1))
 
 pub cold-reset-spec : {M : Type 1} → statement M
 cold-reset-spec =

@@ -28,12 +28,12 @@ unfolding linkDownEffect
 returns c =
     let reset = c .before .before .before .before .before .before .before in
     let a = reset .before .before .before .before .before .before .args in
-    (λ cells. alike cells (c .after-link-down .ensures) (c .before .before .before .stop-all .ensures) (reset .reset-links .ensures) ∙ sym (when-true (a .dev .link) _ _ (reset .before .before .if1 .taken)), λ e. absurd (false≢true e))
+    (λ cells. alike cells (c .after-link-down .ensures) (c .before .before .before .stop-all .ensures .0) (reset .reset-links .ensures) ∙ sym (when-true (a .dev .link) _ _ (reset .before .before .if1 .taken)), (λ e. absurd (false≢true e), c .before .before .before .stop-all .ensures .1))
 
 returns-2 : tie.Need-returns-2
 unfolding linkDownEffect
 returns-2 c =
-    (λ cells. sym (when-false (c .before .before .before .before .args .dev .link) _ _ (c .if1 .left)), λ e. (refl, refl))
+    (λ cells. sym (when-false (c .before .before .before .before .args .dev .link) _ _ (c .if1 .left)), (λ e. (refl, refl), refl))
 
 pub link-down-spec : {M : Type 1} → statement M
 link-down-spec =

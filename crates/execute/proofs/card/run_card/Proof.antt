@@ -1,12 +1,13 @@
 -- `execute::card::run_card` meets its contract.
 use borrow.Author.Needs.{needs}
-use mathlib.Core.Path.{_≡_, ap, sym, _∙_}
+use mathlib.Core.Path.{_≡_, ap, ap₂, sym, _∙_}
 use lib.ListN.{length}
-use Rattle.readiness.specs.inner.Phases.{statusesIn}
-use Rattle.readiness.proofs.PhaseNumbers.{statuses-same}
+use Rattle.readiness.specs.inner.Phases.{statusesIn, momentsIn, notes}
+use Rattle.readiness.proofs.PhaseNumbers.{statuses-same, notes-none}
 use Rattle.records.specs.State.{state}
+use Rattle.records.specs.MadeReady.{readiedBy}
 use Rattle.records.specs.inner.Parts.{cardEffect, cardRun, isRefused}
-use Rattle.execute.proofs.Answers.{answered-refused, answered-does}
+use Rattle.execute.proofs.Answers.{answered-refused, answered-does, readied-refused, readied-does}
 use Rattle.execute.proofs.card.run_card.Statement.{statement}
 use Rattle.execute.proofs.card.run_card.Tie as tie
 
@@ -42,9 +43,12 @@ returns c =
     let begun = told .before .before .before .before .before .before in
     let a = begun .before .before .before .before .before .before .before .args in
     let s = state (a .dev) (statusesIn (a .phases .now)) (a .live .now) (a .cells .now) in
-    let same = begun .start .ensures .1 (ap isRefused (told .started .given .1)) in
-    (λ i. record { after = state (a .dev) (statusesIn (same .0 i)) (same .1 i) (a .cells .now); reply = c .plain-reply .ensures i })
-    ∙ sym (answered-refused (a .setup) s (begun .start .result) _ _ _ (a .cells .now) (cardEffect (a .setup) (a .defaults .now) (a .«record») s) (told .started .given .1) (begun .start .ensures .0 (a .cells .now)))
+    let same = begun .start .ensures .1 .0 (ap isRefused (told .started .given .1)) in
+    let e = cardEffect (a .setup) (a .defaults .now) (a .«record») s in (
+      (λ i. record { after = state (a .dev) (statusesIn (same .0 i)) (same .1 i) (a .cells .now); reply = c .plain-reply .ensures i })
+          ∙ sym (answered-refused (a .setup) s (begun .start .result) _ _ _ (a .cells .now) e (told .started .given .1) (begun .start .ensures .0 (a .cells .now))),
+      ap momentsIn (same .0) ∙ notes-none (readiedBy e) _ (readied-refused (begun .start .result) _ _ _ (a .cells .now) e (told .started .given .1) (begun .start .ensures .0 (a .cells .now))),
+    )
 
 same-length-3 : tie.Need-same-length-3
 same-length-3 c = search needs
@@ -63,8 +67,12 @@ returns-2 c =
     let begun = told .before .before .before .before .before .before in
     let a = begun .before .before .before .before .before .before .before .args in
     let s = state (a .dev) (statusesIn (a .phases .now)) (a .live .now) (a .cells .now) in
-    ran .settled .ensures s _
-    ∙ sym (answered-does (a .setup) s (begun .start .result) _ _ _ (a .cells .now) (cardEffect (a .setup) (a .defaults .now) (a .«record») s) (told .started2 .given .1) (begun .start .ensures .0 (a .cells .now)))
+    let e = cardEffect (a .setup) (a .defaults .now) (a .«record») s in (
+      ran .settled .ensures .0 s _
+          ∙ sym (answered-does (a .setup) s (begun .start .result) _ _ _ (a .cells .now) e (told .started2 .given .1) (begun .start .ensures .0 (a .cells .now))),
+      ran .settled .ensures .1
+          ∙ ap₂ notes (sym (readied-does (begun .start .result) _ _ _ (a .cells .now) e (told .started2 .given .1) (begun .start .ensures .0 (a .cells .now)))) (begun .start .ensures .1 .1),
+    )
 
 pub run-card-spec : {M : Type 1} → statement M
 run-card-spec =

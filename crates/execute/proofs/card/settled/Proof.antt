@@ -29,7 +29,7 @@ returns : tie.Need-returns
 unfolding answered
 returns c =
     let settle = c .before .before .before .before .before .before in
-    λ before live. ap (told live) (rw (settle .before .before .root-port .ensures) at (settle .settle .ensures))
+    (λ before live. ap (told live) (rw (settle .before .before .root-port .ensures) at (settle .settle .ensures .0)), rw (settle .before .before .root-port .ensures) at (settle .settle .ensures .1))
 
 pub settled-spec : {M : Type 1} → statement M
 settled-spec = tie.close (tie.spec root-port-requires settle-requires same-length same-length-2 returns)

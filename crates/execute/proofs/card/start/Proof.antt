@@ -62,7 +62,7 @@ enum-told-13 c = search needs
 
 returns : tie.Need-returns
 unfolding cardEffect
-returns c = rw (c .before .before .«record» .given .1) (λ cells. c .advance .ensures _ _ cells, λ e. (refl, refl))
+returns c = rw (c .before .before .«record» .given .1) (λ cells. c .advance .ensures _ _ cells, (λ e. (refl, refl), refl))
 
 same-length : tie.Need-same-length
 same-length c = search needs
@@ -71,7 +71,7 @@ returns-2 : tie.Need-returns-2
 unfolding cardEffect
 returns-2 c =
     let up = c .before .before in
-    rw (up .before .before .enum-told .given .1) (λ cells. up .link-up .ensures .0 _ cells, λ e. (up .link-up .ensures .1 e, refl))
+    rw (up .before .before .enum-told .given .1) (λ cells. up .link-up .ensures .0 _ cells, (λ e. (up .link-up .ensures .1 .0 e, refl), up .link-up .ensures .1 .1))
 
 same-length-2 : tie.Need-same-length-2
 same-length-2 c = search needs
@@ -95,47 +95,47 @@ returns-4 : tie.Need-returns-4
 unfolding cardEffect
 returns-4 c =
     let cold = c .before .before .before .before in
-    rw (cold .before .before .before .enum-told3 .given .1) (cold .cold-reset .ensures .0, λ e. absurd (true≢false (sym e ∙ cold .cold-reset .ensures .1)))
+    rw (cold .before .before .before .enum-told3 .given .1) (cold .cold-reset .ensures .0, (λ e. absurd (true≢false (sym e ∙ cold .cold-reset .ensures .1 .0)), cold .cold-reset .ensures .1 .1))
 
 returns-5 : tie.Need-returns-5
 unfolding cardEffect
-returns-5 c = rw (c .enum-told4 .given .1) (λ cells. refl, λ e. (refl, refl))
+returns-5 c = rw (c .enum-told4 .given .1) (λ cells. refl, (λ e. (refl, refl), refl))
 
 returns-6 : tie.Need-returns-6
 unfolding cardEffect
-returns-6 c = rw (c .enum-told5 .given .1) (λ cells. refl, λ e. (refl, refl))
+returns-6 c = rw (c .enum-told5 .given .1) (λ cells. refl, (λ e. (refl, refl), refl))
 
 returns-7 : tie.Need-returns-7
 unfolding cardEffect
-returns-7 c = rw (c .enum-told6 .given .1) (λ cells. refl, λ e. (refl, refl))
+returns-7 c = rw (c .enum-told6 .given .1) (λ cells. refl, (λ e. (refl, refl), refl))
 
 returns-8 : tie.Need-returns-8
 unfolding cardEffect
-returns-8 c = rw (c .enum-told7 .given .1) (λ cells. refl, λ e. (refl, refl))
+returns-8 c = rw (c .enum-told7 .given .1) (λ cells. refl, (λ e. (refl, refl), refl))
 
 returns-9 : tie.Need-returns-9
 unfolding cardEffect
-returns-9 c = rw (c .enum-told8 .given .1) (λ cells. refl, λ e. (refl, refl))
+returns-9 c = rw (c .enum-told8 .given .1) (λ cells. refl, (λ e. (refl, refl), refl))
 
 returns-10 : tie.Need-returns-10
 unfolding cardEffect
-returns-10 c = rw (c .enum-told9 .given .1) (λ cells. refl, λ e. (refl, refl))
+returns-10 c = rw (c .enum-told9 .given .1) (λ cells. refl, (λ e. (refl, refl), refl))
 
 returns-11 : tie.Need-returns-11
 unfolding cardEffect
-returns-11 c = rw (c .enum-told10 .given .1) (λ cells. refl, λ e. (refl, refl))
+returns-11 c = rw (c .enum-told10 .given .1) (λ cells. refl, (λ e. (refl, refl), refl))
 
 returns-12 : tie.Need-returns-12
 unfolding cardEffect
-returns-12 c = rw (c .enum-told11 .given .1) (λ cells. refl, λ e. (refl, refl))
+returns-12 c = rw (c .enum-told11 .given .1) (λ cells. refl, (λ e. (refl, refl), refl))
 
 returns-13 : tie.Need-returns-13
 unfolding cardEffect
-returns-13 c = rw (c .enum-told12 .given .1) (λ cells. refl, λ e. (refl, refl))
+returns-13 c = rw (c .enum-told12 .given .1) (λ cells. refl, (λ e. (refl, refl), refl))
 
 returns-14 : tie.Need-returns-14
 unfolding cardEffect
-returns-14 c = rw (c .enum-told13 .given .1) (λ cells. refl, λ e. (refl, refl))
+returns-14 c = rw (c .enum-told13 .given .1) (λ cells. refl, (λ e. (refl, refl), refl))
 
 pub start-spec : {M : Type 1} → statement M
 start-spec =

@@ -4,12 +4,13 @@ use borrow.Author.Needs.{needs}
 use mathlib.Core.Path.{ap, sym, _∙_}
 use Prim.Native.Nat.{_<_}
 use Rattle.frs_queue.specs.Queue.{noTally}
+use Rattle.readiness.specs.MadeReady.{madeBy}
 use Rattle.records.specs.declared.Completion.{Completion}
 use Rattle.records.specs.State.{Seat, seat}
-use Rattle.records.specs.Answer.{does, reply}
+use Rattle.records.specs.Answer.{Effect, does, reply}
 use Rattle.records.specs.Route.{routeCompletion, isAccess}
 use Rattle.records.specs.Requests.{writeEffect}
-use Rattle.records.specs.inner.Parts.{slotEffect, slotAnswered, slotRun}
+use Rattle.records.specs.inner.Parts.{slotEffect, slotAnswered, slotReadied, slotRun}
 use Rattle.bits.proofs.Choices.{when-true, when-false}
 use Rattle.execute.proofs.Resting.{told}
 use Rattle.execute.proofs.requests.run_write.Statement.{statement}
@@ -44,7 +45,10 @@ returns c =
     let z = seat (a .dev) (a .status) (a .live .now) (a .cells .now) in
     let e = c .before .before .before .before .before .before .before .before .before .before .route-of .ensures .0 in
     let t = ap isAccess (sym e) ∙ sym (c .before .before .before .before .before .before .before .before .before .is-access .ensures) ∙ c .before .before .before .before .before .before .before .before .if1 .taken in
-    c .before .before .finished .ensures z _ ∙ ap (λ (y : Seat). slotAnswered (a .bus) (a .entry) (a .slot) z (does y noTally 0)) (c .before .before .before .before .before .before .write-ready .ensures (a .cells .now)) ∙ ap (slotAnswered (a .bus) (a .entry) (a .slot) z) (sym (when-true _ _ _ t))
+    let done = ap (λ (y : Seat). does y noTally 0) (c .before .before .before .before .before .before .write-ready .ensures (a .cells .now)) ∙ sym (when-true _ _ _ t) in (
+      c .before .before .finished .ensures .0 z _ ∙ ap (slotAnswered (a .bus) (a .entry) (a .slot) z) done,
+      c .before .before .finished .ensures .1 ∙ ap (λ (e : Effect Seat). madeBy (slotReadied (a .slot) e)) done,
+    )
 
 route-completion-requires : tie.Need-route-completion-requires
 route-completion-requires c κs = search needs
@@ -59,7 +63,10 @@ returns-2 c =
     let z = seat (a .dev) (a .status) (a .live .now) (a .cells .now) in
     let e = c .before .before .before .before .route-of .ensures .0 in
     let t = ap isAccess (sym e) ∙ sym (c .before .before .before .is-access .ensures) ∙ c .before .before .if1 .left in
-    ap (told z) (c .plain-reply .ensures ∙ ap (λ (n : Completion). reply n noTally 0) (c .before .route-completion .ensures ∙ ap routeCompletion e)) ∙ ap (slotAnswered (a .bus) (a .entry) (a .slot) z) (sym (when-false _ _ _ t))
+    let no = sym (when-false _ _ _ t) in (
+      ap (told z) (c .plain-reply .ensures ∙ ap (λ (n : Completion). reply n noTally 0) (c .before .route-completion .ensures ∙ ap routeCompletion e)) ∙ ap (slotAnswered (a .bus) (a .entry) (a .slot) z) no,
+      ap (λ (e : Effect Seat). madeBy (slotReadied (a .slot) e)) no,
+    )
 
 pub run-write-spec : {M : Type 1} → statement M
 run-write-spec =

@@ -25,7 +25,10 @@ same-length c = search needs
 
 returns : tie.Need-returns
 unfolding slotAnswered
-returns c = λ before live. ap (told live (c .before .before .before .before .before .before .before .before .before .before .args .«data»)) (rw (c .before .before .before .before .before .before .before .before .root-port .ensures) at (c .before .before .before .before .before .before .settle-slot .ensures))
+returns c =
+    let x = c .before .before .before .before .before .before in
+    let port = x .before .before .root-port .ensures in
+    (λ before live. ap (told live (x .before .before .before .before .args .«data»)) (rw port at (x .settle-slot .ensures .0)), rw port at (x .settle-slot .ensures .1))
 
 pub settled-spec : {M : Type 1} → statement M
 settled-spec = tie.close (tie.spec root-port-requires settle-slot-requires same-length returns)

@@ -8,27 +8,33 @@ use lib.ListN.{length, take, drop, replicate, length-drop}
 use lib.Seq.{take-length}
 use denote.Ref.{now}
 use borrow.Author.Needs.{needs}
+use Rattle.trace.specs.Format.{next}
+use Rattle.trace.specs.inner.Gathered.{wholeSize}
 use Rattle.trace.specs.Lent.{Left}
 use Rattle.bits.proofs.Bytes.{bytes-of}
 use Rattle.trace.proofs.Loop.{end-few}
 use Rattle.times.specs.declared.Nanos.{Nanos}
 use Rattle.readiness.specs.declared.Status.{Status}
 use Rattle.readiness.specs.declared.Dev.{Dev}
-use Rattle.readiness.specs.inner.Phases.{statusesIn}
+use Rattle.readiness.specs.inner.Phases.{statusesIn, momentsIn}
 use Rattle.readiness.specs.inner.Earliest.{ReadyFrom}
+use Rattle.readiness.proofs.Bounds.{bound-quiet}
+use Rattle.readiness.proofs.PhaseNumbers.{notes-none}
 use Rattle.records.specs.declared.Record.{Record}
 use Rattle.records.specs.declared.Port.{Port}
 use Rattle.records.specs.State.{state}
+use Rattle.records.proofs.Readying.{readied-port, readied-read, readied-set, readied-clock}
 use Rattle.demand3.specs.Held.{Held, held, opened}
 use Rattle.set_up.specs.Lent.{heldIn}
 use Rattle.feed.specs.declared.FedPort.{FedPort}
 use Rattle.feed.specs.declared.Turn.{Turn}
 use Rattle.feed.specs.declared.Turn.the-variants as turn
 use Rattle.feed.specs.inner.Calls.{carriesOn}
-use Rattle.feed.specs.inner.Turns.{Takes, TakesTurn}
+use Rattle.feed.specs.inner.Turns.{Takes, TakesTurn, NotesTurn}
 use Rattle.feed.proofs.Accepting.{Accepted, accepted}
 use Rattle.feed.proofs.Looping.{Head, starts, length-trace, length-statuses, Turning, turning, turned, ended-all}
-use Rattle.feed.proofs.Direct.{bound-zero}
+use Rattle.feed.proofs.Direct.{at-slot, bound-zero}
+use Rattle.feed.proofs.Noting.{Notes, note-starts, note-turn, note-all}
 use Rattle.feed.proofs.running.run_input.Statement.{statement}
 use Rattle.feed.proofs.running.run_input.Tie as tie
 
@@ -37,6 +43,7 @@ Inv-loop table phases₀ live₀ defaults cells₀ input answers₀ setup dev₀
     Head setup defaults (replicate 16 0) 0 input answers₀ (state dev₀ (statusesIn phases₀) live₀ cells₀) answers dev (statusesIn phases) live cells at w
     × ReadyFrom earliest (statusesIn phases)
     × (length phases ≡ length phases₀)
+    × Notes setup defaults input (length answers₀) (state dev₀ (statusesIn phases₀) live₀ cells₀) (momentsIn phases₀) (state dev (statusesIn phases) live cells) (momentsIn phases) at w
 
 abbrev μ-loop : tie.MeasureT-loop
 μ-loop table phases₀ live₀ defaults cells₀ input answers₀ setup dev₀ earliest₀ at₀ w₀ phases live cells answers dev earliest at w = length input - at
@@ -89,6 +96,22 @@ keeps : (c : tie.After-struct-known2 Inv-loop μ-loop) → (r : Record) → read
 keeps c r e dev statuses live cells answers x =
     turned (head c .loop .inv .0) (size c) (turns c) r (sym e ∙ c .before .before .before .before .next-record .ensures .1 (turns c .some)) dev statuses live cells answers x
 
+-- and notes what it makes Ready
+notes-on : (c : tie.After-struct-known2 Inv-loop μ-loop) → (r : Record) → read c ≡ r
+    → (dev : Dev) (statuses : List Status) (live cells answers moments : List ℕ)
+    → (let l = head c in
+    let a = entry l .args in
+    let s = state (l .loop .dev) (statusesIn (l .loop .phases)) (l .loop .live) (l .loop .cells) in
+    TakesTurn (a .t2) (now (a .defaults)) s r (l .loop .answers) (l .loop .w) (state dev statuses live cells) answers
+    → NotesTurn (a .t2) (now (a .defaults)) s r (momentsIn (l .loop .phases)) moments
+    → Notes (a .t2) (now (a .defaults)) (now (a .input)) (length (now (a .answers))) (state (a .start) (statusesIn (now (a .phases))) (now (a .live)) (now (a .cells))) (momentsIn (now (a .phases)))
+    (state dev statuses live cells) moments (l .loop .at + size c) (l .loop .w + 8))
+notes-on c r e dev statuses live cells answers moments x n =
+    let v = head c .loop .inv .0 .inv .good .kept in
+    λ ws a j h.
+    note-turn _ _ _ _ _ _ _ _ _ _ _ (head c .loop .inv .3 ws a j h) (size c) (turns c .got) r (sym e ∙ c .before .before .before .before .next-record .ensures .1 (turns c .some))
+    (state dev statuses live cells) (x (v .sound) (v .fits) .state) moments (n (v .sound) (v .fits))
+
 -- ---- how it takes its turn
 abbrev present : tie.After-struct-known2 Inv-loop μ-loop → Turn → Type 0
 present c t =
@@ -133,6 +156,7 @@ loop-holds c =
           (bytes-of (now (s .args .input)) (λ i h. omega (arith, c .before .before .shared-slice-known2 .given i))),
       subst (λ (m : Nanos). ReadyFrom m (statusesIn (now (s .args .phases)))) (sym (c .nanos-of .ensures)) (bound-zero (statusesIn (now (s .args .phases)))),
       refl,
+      λ ws w j h. note-starts _ _ _ _ _ _ _ w j h,
     )
 
 sub-next-record : tie.Need-sub-next-record Inv-loop μ-loop
@@ -195,10 +219,14 @@ returns c =
     let s = entry l in
     let o = l .loop in
     let none = sym (c .before .before .before .before .before .before .next-record .ensures .0) ∙ c .before .before .before .before .if1 .taken in
-    rw (c .after-first .ensures)
-    (_∙_ {A = Left Held}
-    (ap (λ (x : FedPort). record { number = x .number; consumed = o .at + x .consumed; written = o .w + x .written; held = held (x .port) (statusesIn (o .phases)) (o .live) (o .cells); answers = o .answers }) (carries (c .before)))
-    (ended-all (o .inv .0) refl none (left l) (left-is l) (lent s) refl refl (s .pre .1)))
+    let room : wholeSize (length (now (s .args .answers)) - o .w) (next (drop (o .at) (now (s .args .input)))) ≡ 0 =
+    ap (λ (n : ℕ). wholeSize (n - o .w) (next (drop (o .at) (now (s .args .input))))) (sym (o .inv .0 .inv .long)) ∙ none in (
+      rw (c .after-first .ensures)
+          (_∙_ {A = Left Held}
+          (ap (λ (x : FedPort). record { number = x .number; consumed = o .at + x .consumed; written = o .w + x .written; held = held (x .port) (statusesIn (o .phases)) (o .live) (o .cells); answers = o .answers }) (carries (c .before)))
+          (ended-all (o .inv .0) refl none (left l) (left-is l) (lent s) refl refl (s .pre .1))),
+      λ ws a j h. note-all _ _ _ _ _ _ _ _ _ _ _ (o .inv .3 ws a j h) room,
+    )
 
 -- ---- the turns
 turn-of-requires : tie.Need-turn-of-requires Inv-loop μ-loop
@@ -289,10 +317,12 @@ loop-again c =
     let k = c .before .before .before .before .before .before .before .before .before .before in
     let l = head k in
     let a = entry l .args in
-    let t = taken-read (c .before .before .before .before .before .before .before .before) in (
-      keeps k _ (t .0) _ _ _ _ _ (c .before .before .read-turn .ensures (a .t2) (now (a .defaults)) (l .loop .cells) refl refl (t .1)),
+    let t = taken-read (c .before .before .before .before .before .before .before .before) in
+    let x = c .before .before .read-turn .ensures (a .t2) (now (a .defaults)) (l .loop .cells) refl refl (t .1) in (
+      keeps k _ (t .0) _ _ _ _ _ x,
       l .loop .inv .1,
       l .loop .inv .2,
+      notes-on k _ (t .0) _ _ _ _ _ _ x (λ sound fits. notes-none _ _ (readied-read _ _ _ sound fits _ (at-slot (a .t2) _ _ refl (t .1)))),
     )
 
 loop-less-2 : tie.Need-loop-less-2 Inv-loop μ-loop
@@ -305,8 +335,9 @@ loop-again-2 c =
     let t = taken-write (c .before .before .before .before .before .before .before .before .before .before .before .before .before .before .before .before .before) in
     let x = c .before .before .before .before .before .before .before .before .before .before .write-turn in (
       keeps k _ (t .0) _ _ _ _ _ (x .ensures .0 (entry l .args .t2) refl refl refl (t .1)),
-      x .ensures .1 (l .loop .inv .1),
+      x .ensures .1 .0 (l .loop .inv .1),
       omega (arith, c .before .before .before .before .before .before .before .before .before .phases .given, l .loop .inv .2),
+      notes-on k _ (t .0) _ _ _ _ _ _ (x .ensures .0 (entry l .args .t2) refl refl refl (t .1)) (x .ensures .1 .1 (entry l .args .t2) refl refl (t .1)),
     )
 
 loop-less-3 : tie.Need-loop-less-3 Inv-loop μ-loop
@@ -317,10 +348,12 @@ loop-again-3 c =
     let k = c .before .before .before .before .before .before .before .before .before .before .before .before in
     let l = head k in
     let a = entry l .args in
-    let t = taken-hardware (c .before .before .before .before .before .before .before .before .before .before) in (
-      keeps k _ (t .0) _ _ _ _ _ (c .before .before .before .before .hardware-turn .ensures (a .t2) (now (a .defaults)) (l .loop .dev) (l .loop .cells) refl refl (t .1)),
+    let t = taken-hardware (c .before .before .before .before .before .before .before .before .before .before) in
+    let x = c .before .before .before .before .hardware-turn .ensures (a .t2) (now (a .defaults)) (l .loop .dev) (l .loop .cells) refl refl (t .1) in (
+      keeps k _ (t .0) _ _ _ _ _ x,
       l .loop .inv .1,
       l .loop .inv .2,
+      notes-on k _ (t .0) _ _ _ _ _ _ x (λ sound fits. notes-none _ _ (readied-set _ _ _ sound fits _ _ _ (at-slot (a .t2) _ _ refl (t .1)))),
     )
 
 loop-less-4 : tie.Need-loop-less-4 Inv-loop μ-loop
@@ -330,11 +363,13 @@ loop-again-4 : tie.Need-loop-again-4 Inv-loop μ-loop
 loop-again-4 c =
     let k = c .before .before .before .before .before .before .before .before .before in
     let l = head k in
-    let a = entry l .args in (
-      keeps k _ refl _ _ _ _ _
-          (c .before .before .before .before .port-turn .ensures (a .t2) (now (a .defaults)) (statusesIn (l .loop .phases)) (l .loop .live) refl (taken-port (c .before .before .before .before .before .before .before) (a .t2) refl)),
+    let a = entry l .args in
+    let part = taken-port (c .before .before .before .before .before .before .before) (a .t2) refl in
+    let x = c .before .before .before .before .port-turn .ensures (a .t2) (now (a .defaults)) (statusesIn (l .loop .phases)) (l .loop .live) refl part in (
+      keeps k _ refl _ _ _ _ _ x,
       l .loop .inv .1,
       l .loop .inv .2,
+      notes-on k _ refl _ _ _ _ _ _ x (λ sound fits. notes-none _ _ (readied-port _ _ _ sound fits _ part)),
     )
 
 loop-less-5 : tie.Need-loop-less-5 Inv-loop μ-loop
@@ -345,10 +380,12 @@ loop-again-5 c =
     let k = c .before .before .before .before .before .before .before .before .before .before in
     let l = head k in
     let a = entry l .args in
-    let t = taken-frs (c .before .before .before .before .before .before .before .before) in (
-      keeps k _ (t .0) _ _ _ _ _ (c .before .before .before .before .frs-turn .ensures (a .t2) (now (a .defaults)) (statusesIn (l .loop .phases)) (l .loop .live) (t .1)),
+    let t = taken-frs (c .before .before .before .before .before .before .before .before) in
+    let x = c .before .before .before .before .frs-turn .ensures (a .t2) (now (a .defaults)) (statusesIn (l .loop .phases)) (l .loop .live) (t .1) in (
+      keeps k _ (t .0) _ _ _ _ _ x,
       l .loop .inv .1,
       l .loop .inv .2,
+      notes-on k _ (t .0) _ _ _ _ _ _ x (λ sound fits. notes-none _ _ (readied-port _ _ _ sound fits _ refl)),
     )
 
 loop-less-6 : tie.Need-loop-less-6 Inv-loop μ-loop
@@ -359,11 +396,12 @@ loop-again-6 c =
     let k = c .before .before .before .before .before .before .before in
     let l = head k in
     let a = entry l .args in
-    let t = taken-clock (c .before .before .before .before .before) in (
-      keeps k _ (t .0) _ _ _ _ _
-          (c .before .before .clock-turn .ensures (a .t2) (now (a .defaults)) (statusesIn (l .loop .phases)) (l .loop .live) (l .loop .cells) (l .loop .earliest) (l .loop .inv .1) (t .1)),
+    let t = taken-clock (c .before .before .before .before .before) in
+    let x = c .before .before .clock-turn .ensures (a .t2) (now (a .defaults)) (statusesIn (l .loop .phases)) (l .loop .live) (l .loop .cells) (l .loop .earliest) (l .loop .inv .1) (t .1) in (
+      keeps k _ (t .0) _ _ _ _ _ x,
       l .loop .inv .1,
       l .loop .inv .2,
+      notes-on k _ (t .0) _ _ _ _ _ _ x (λ sound fits. notes-none _ _ (readied-clock _ _ _ _ (bound-quiet (l .loop .earliest) _ (statusesIn (l .loop .phases)) (l .loop .inv .1) (t .1)))),
     )
 
 loop-less-7 : tie.Need-loop-less-7 Inv-loop μ-loop
@@ -372,10 +410,12 @@ loop-less-7 c = less (c .before .before .before .before .before .before .before 
 loop-again-7 : tie.Need-loop-again-7 Inv-loop μ-loop
 loop-again-7 c =
     let k = c .before .before .before .before .before .before .before .before .before .before .before .before .before .before .before .before .before in
-    let x = c .before .before .before .before .before .before .before .before .before .before .card-turn in (
-      keeps k _ refl _ _ _ _ _ (x .ensures .0 (taken-card (c .before .before .before .before .before .before .before .before .before .before .before .before .before .before .before) (entry (head k) .args .t2) refl)),
-      x .ensures .1,
+    let x = c .before .before .before .before .before .before .before .before .before .before .card-turn in
+    let part = taken-card (c .before .before .before .before .before .before .before .before .before .before .before .before .before .before .before) (entry (head k) .args .t2) refl in (
+      keeps k _ refl _ _ _ _ _ (x .ensures .0 part),
+      x .ensures .1 .0,
       omega (arith, c .before .before .before .before .before .before .before .before .before .phases2 .given, head k .loop .inv .2),
+      notes-on k _ refl _ _ _ _ _ _ (x .ensures .0 part) (x .ensures .1 .1 part),
     )
 
 pub run-input-spec : {M : Type 1} → statement M

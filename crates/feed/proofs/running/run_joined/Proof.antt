@@ -72,7 +72,7 @@ one c =
     let room = take (8 - 0) (now (a .answers)) in
     let t = take (a .size) (carriedOf (a .port) ++ now (a .input)) in
     let n : length t ≡ a .size - 0 = omega (arith, length-take-le (a .size) (carriedOf (a .port) ++ now (a .input)) (there-first j)) in
-    c .run-input .ensures
+    c .run-input .ensures .0
     ∙ ap (λ (l : List ℕ). feeds (a .setup) (now (a .defaults)) (heldIn (opened (a .port .dev)) (now (a .phases)) (now (a .live)) (now (a .cells))) l room)
     (ap (take (a .size - 0)) (c .before .before .before .before .before .before .before .first-bytes .ensures) ∙ take-at t (replicate (longest - length t) 0) (a .size - 0) n ∙ bytes-first j)
     ∙ first-call j room (length-take-le 8 (now (a .answers)) (room-first j))
@@ -191,7 +191,7 @@ two c =
     let d : drop 8 (y ++ drop 8 (now (a .answers))) ≡ drop 8 (now (a .answers)) = drop-at y (drop 8 (now (a .answers))) 8 (eight f) in
     let r : take (length (y ++ drop 8 (now (a .answers))) - 8) (drop 8 (y ++ drop 8 (now (a .answers)))) ≡ drop 8 (now (a .answers)) =
     ap (λ (n : ℕ). take n (drop 8 (y ++ drop 8 (now (a .answers))))) (sym (length-drop 8 (y ++ drop 8 (now (a .answers))))) ∙ take-length (drop 8 (y ++ drop 8 (now (a .answers)))) ∙ d in
-    c .run-input2 .ensures
+    c .run-input2 .ensures .0
     ∙ λ k. feeds (a .setup) (now (a .defaults)) (lent-between f k) (i k) (r k)
 
 after-first-requires : tie.Need-after-first-requires

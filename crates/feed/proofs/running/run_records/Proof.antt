@@ -42,7 +42,7 @@ returns : tie.Need-returns
 returns c =
     let t = c .before .before .before .before .before .before .before .before .before .before .before .before .before .before in
     let s = entry t in
-    c .before .before .before .before .before .before .before .before .run-input .ensures
+    c .before .before .before .before .before .before .before .before .run-input .ensures .0
     ∙ fresh-feeds (s .args .setup) (now (s .args .defaults)) (lent s) (now (s .args .input)) (now (s .args .answers)) (s .pre .1 .0) (relies s) (t .if1 .taken)
 
 run-joined-requires : tie.Need-run-joined-requires

@@ -1,10 +1,15 @@
 -- `feed::turning::card_turn` meets its contract.
-use mathlib.Core.Path.{_∙_}
+-- Written by `tools/paths --write feed turning/card_turn`.
+use mathlib.Core.Path.{sym, ap, _∙_}
+use mathlib.Core.List.{List}
 use borrow.Author.Needs.{needs}
 use denote.Ref.{now}
-use Rattle.readiness.specs.inner.Phases.{statusesIn}
+use Rattle.readiness.specs.inner.Phases.{statusesIn, momentsIn, notes}
+use Rattle.readiness.specs.Events.{Event}
 use Rattle.readiness.proofs.Bounds.{bound-earliest}
 use Rattle.readiness.proofs.PhaseNumbers.{statuses-same}
+use Rattle.records.specs.State.{state}
+use Rattle.records.proofs.Readying.{readied-card}
 use Rattle.feed.proofs.Parts.{card-runs}
 use Rattle.feed.proofs.Direct.{turned-of}
 use Rattle.feed.proofs.turning.card_turn.Statement.{statement}
@@ -34,12 +39,18 @@ same-length-4 c = search needs
 returns : tie.Need-returns
 returns c =
     let a = c .before .before .before .before .before .before .before .before .before .before .before .before .before .before .before .before .before .before .before .before .before .before .args in
-    let x = c .before .before .before .before .before .before .before .before .before .before .before .before .before .run-card in (
+    let x = c .before .before .before .before .before .before .before .before .before .before .before .before .before .run-card in
+    let s = statusesIn (now (a .phases)) in (
       λ q sound fits.
-          turned-of (a .setup) (now (a .defaults)) (a .dev) (statusesIn (now (a .phases))) (now (a .live)) (now (a .cells)) (a .«record») _ (x .result .reply)
-          (card-runs (a .setup) (now (a .defaults)) (a .dev) (statusesIn (now (a .phases))) (now (a .live)) (now (a .cells)) (a .«record») q (x .result) _ _ _ (x .ensures))
+          turned-of (a .setup) (now (a .defaults)) (a .dev) s (now (a .live)) (now (a .cells)) (a .«record») _ (x .result .reply)
+          (card-runs (a .setup) (now (a .defaults)) (a .dev) s (now (a .live)) (now (a .cells)) (a .«record») q (x .result) _ _ _ (x .ensures .0))
           _ _ _ (c .before .before .before .before .before .answer .ensures),
-      rw (c .earliest-ready .ensures) (bound-earliest (statusesIn (x .last .1 .1 .1 .0))),
+      (
+        rw (c .earliest-ready .ensures) (bound-earliest (statusesIn (x .last .1 .1 .1 .0))),
+        λ q sound fits.
+            x .ensures .1
+            ∙ ap (λ (es : List Event). notes es (momentsIn (now (a .phases)))) (sym (readied-card (a .setup) (now (a .defaults)) (state (a .dev) s (now (a .live)) (now (a .cells))) (a .«record») q)),
+      ),
     )
 
 pub card-turn-spec : {M : Type 1} → statement M

@@ -1,14 +1,14 @@
--- `otsnebura::options::options_given` is safe and ends: it counts to 8.
+-- `otsnebura::options::options_given` is safe and ends: it counts to 9.
 use borrow.Author.Needs.{needs}
 use Prim.Native.Nat.{_≤_, _-_}
 use Rattle.otsnebura.proofs.options.options_given.Statement.{statement}
 use Rattle.otsnebura.proofs.options.options_given.Tie as tie
 
 abbrev Inv-loop : tie.InvT-loop
-Inv-loop o₀ i₀ o i = i ≤ 8
+Inv-loop o₀ i₀ o i = i ≤ 9
 
 abbrev μ-loop : tie.MeasureT-loop
-μ-loop o₀ i₀ o i = 8 - i
+μ-loop o₀ i₀ o i = 9 - i
 
 no-options-requires : tie.Need-no-options-requires Inv-loop μ-loop
 no-options-requires c κs = search needs

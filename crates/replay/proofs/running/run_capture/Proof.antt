@@ -8,15 +8,16 @@ use lib.Seq.{length-take-le}
 use denote.Ref.{now}
 use borrow.Author.Needs.{needs}
 use Rattle.trace.specs.Lent.{Left}
-use Rattle.readiness.specs.inner.Phases.{statusesIn}
+use Rattle.readiness.specs.inner.Phases.{statusesIn, momentsIn}
 use Rattle.capture.specs.Lent.{progressIn}
 use Rattle.demand3.specs.Held.{carriedOf}
 use Rattle.execute.specs.inner.Lent.{stateIn}
 use Rattle.set_up.specs.Lent.{heldIn}
 use Rattle.feed.proofs.Accepting.{Accepted, accepted}
 use Rattle.feed.proofs.Carried.{open-accepted}
-use Rattle.replay_rules.specs.Replaying.{HeldWith}
+use Rattle.replay_rules.specs.KeepingMoments.{HeldNoting}
 use Rattle.replay.specs.declared.ReplayedPort.{ReplayedPort}
+use Rattle.replay.specs.inner.Noted.{notedIn}
 use Rattle.replay.specs.inner.Calls.{comesTo}
 use Rattle.replay.proofs.Looping.{leftOf}
 use Rattle.replay.proofs.Joining.{no-record-yet}
@@ -55,8 +56,8 @@ same-length-4 c = search needs
 returns : tie.Need-returns
 returns c =
     let a = c .before .before .before .before .before .before .before .before .before .before .before .before .before .before .before .before .before .before .before .before .before .args in
-    c .before .before .before .before .before .before .before .before .run-entries .ensures .0
-    ∙ ap (λ (n : ℕ). comesTo (a .setup) (now (a .defaults)) (stateIn (a .port .dev) (now (a .phases)) (now (a .live)) (now (a .cells))) (take n (a .port .carried)) (progressIn (a .begun)) (now (a .input)) (now (a .answers)))
+    λ kept. c .before .before .before .before .before .before .before .before .run-entries .ensures .0 kept
+    ∙ ap (λ (n : ℕ). comesTo (a .setup) (now (a .defaults)) (notedIn kept (a .port .dev) (now (a .phases)) (now (a .live)) (now (a .cells))) (take n (a .port .carried)) (progressIn (a .begun)) (now (a .input)) (now (a .answers)))
     (sym (c .before .before .before .before .before .before .before .before .before .before .before .before .before .before .if1 .taken))
 
 -- ---- with bytes carried
@@ -74,9 +75,9 @@ returns-2 : tie.Need-returns-2
 returns-2 c =
     let s = c .before .before .before .before .before .before .before .before .before .before .before .before in
     let a = s .args in
-    _∙_ {A = Left HeldWith}
-    (ap (λ (x : ReplayedPort). leftOf x (statusesIn (now (a .phases))) (now (a .live)) (now (a .cells)) (now (a .answers))) (c .carried-on .ensures))
-    (no-record-yet (a .setup) (now (a .defaults)) (a .port) (statusesIn (now (a .phases))) (now (a .live)) (now (a .cells)) (now (a .input)) (now (a .answers)) (a .begun)
+    λ kept. _∙_ {A = Left HeldNoting}
+    (ap (λ (x : ReplayedPort). leftOf kept x (statusesIn (now (a .phases))) (momentsIn (now (a .phases))) (now (a .live)) (now (a .cells)) (now (a .answers))) (c .carried-on .ensures))
+    (no-record-yet (a .setup) (now (a .defaults)) kept (a .port) (statusesIn (now (a .phases))) (momentsIn (now (a .phases))) (now (a .live)) (now (a .cells)) (now (a .input)) (now (a .answers)) (a .begun)
     (s .pre .1 .1 .tidy) (relies s .begun) (long s) (omega (arith, c .before .before .before .before .before .if1)) (sym (c .before .before .whole-size .ensures) ∙ c .before .if2 .taken))
 
 -- that begin a record, which is whole now

@@ -15,7 +15,8 @@ use Rattle.trace.specs.Bench.{Ran}
 use Rattle.trace.specs.Lent.{Left, refusalOr31}
 use Rattle.trace.specs.Exactly.{joinedUp}
 use Rattle.trace.proofs.Records.{carrying}
-use Rattle.readiness.specs.inner.Phases.{statusesIn}
+use Rattle.readiness.specs.inner.Phases.{statusesIn, momentsIn}
+use Rattle.readiness.proofs.PhaseNumbers.{moments-length}
 use Rattle.records.specs.State.{State, state}
 use Rattle.capture.specs.Lent.{progressIn}
 use Rattle.execute.specs.inner.Lent.{stateIn}
@@ -26,7 +27,7 @@ use Rattle.feed.specs.Left as feed
 use Rattle.feed.proofs.Accepting.{Accepted, accepted}
 use Rattle.feed.proofs.Carried.{open-accepted}
 use Rattle.replay_state.specs.inner.Moves.{Tidy}
-use Rattle.replay_rules.specs.Replaying.{HeldWith}
+use Rattle.replay_rules.specs.KeepingMoments.{HeldNoting}
 use Rattle.replay.specs.declared.Stretch.{Stretch}
 use Rattle.replay.specs.declared.ReplayedPort.{ReplayedPort}
 use Rattle.replay.specs.inner.Calls.{endsAt}
@@ -38,7 +39,7 @@ use Rattle.replay.proofs.running.run_entries.Tie as tie
 
 abbrev Inv-loop : tie.InvT-loop
 Inv-loop table setup phases₀ live₀ defaults cells₀ input answers₀ trace₀ dev₀ r₀ at₀ w₀ phases live cells answers trace dev r at w =
-    Head setup defaults input answers₀ (state dev₀ (statusesIn phases₀) live₀ cells₀) (progressIn r₀) answers dev (statusesIn phases) live cells r at w
+    Head setup defaults input answers₀ (state dev₀ (statusesIn phases₀) live₀ cells₀) (momentsIn phases₀) (progressIn r₀) answers dev (statusesIn phases) (momentsIn phases) live cells r at w
     × (length phases ≡ length phases₀)
     × (length trace ≡ 4096)
 
@@ -63,8 +64,8 @@ loop-holds : tie.Need-loop-holds Inv-loop μ-loop
 loop-holds c =
     let s = c .before .before .before .before .before .before in
     let a = s .args in (
-      starts (a .setup) (now (a .defaults)) (now (a .input)) (now (a .answers)) (stateIn (a .start) (now (a .phases)) (now (a .live)) (now (a .cells))) (progressIn (a .begun))
-          (relies s .good) (bytes-of (now (a .input)) (λ i h. omega (arith, c .before .shared-slice-known2 .given i))) (a .begun) (s .pre .1 .1) refl,
+      starts (a .setup) (now (a .defaults)) (now (a .input)) (now (a .answers)) (stateIn (a .start) (now (a .phases)) (now (a .live)) (now (a .cells))) (momentsIn (now (a .phases))) (progressIn (a .begun))
+          (relies s .good) (moments-length (now (a .phases))) (bytes-of (now (a .input)) (λ i h. omega (arith, c .before .shared-slice-known2 .given i))) (a .begun) (s .pre .1 .1) refl,
       refl,
       length-replicate {A = ℕ} 4096 0,
     )
@@ -133,7 +134,7 @@ returns c =
     let input = now (entry l .args .input) in
     let room = now (entry l .args .answers) in
     let h = halts (c .before) .0 in (
-      _∙_ {A = Left HeldWith} (ap (λ (x : ReplayedPort). leftOf x (statusesIn (o .phases)) (o .live) (o .cells) (o .answers)) (ends-as c)) (ended (o .inv .0) h),
+      λ kept. _∙_ {A = Left HeldNoting} (ap (λ (x : ReplayedPort). leftOf kept x (statusesIn (o .phases)) (momentsIn (o .phases)) (o .live) (o .cells) (o .answers)) (ends-as c)) (ended (o .inv .0) kept h),
       subst (λ (x : ReplayedPort). (x .consumed ≤ length input) × (x .written ≤ length room)) (sym (ends-as c)) (ended-few (o .inv .0) h),
     )
 
@@ -203,6 +204,21 @@ module _ (c : tie.After-run-input Inv-loop μ-loop) where
   abbrev part : List ℕ
   part = let n = at-next before-run in let o = head n .loop in take (o .w + next n .answers - o .w) (drop (o .w) (o .answers))
 
+  -- the part of the slice for answers is just for theirs
+  room-for : length part ≡ 8 * length records
+  room-for =
+      let n = at-next before-run in
+      let o = head n .loop in
+      let v = written (o .inv .0) (next n) (trace n) (follows n) (some before-run) in
+      let e : length part ≡ o .w + next n .answers - o .w = length-take-le (o .w + next n .answers - o .w) (drop (o .w) (o .answers)) (omega (arith, room before-run, length-drop (o .w) (o .answers))) in
+      omega (arith, e, v .eight)
+
+  -- and the bytes that run are theirs
+  bytes-of-records : take (next (at-next before-run) .len - 0) (trace (at-next before-run)) ≡ joinedUp records
+  bytes-of-records =
+      let n = at-next before-run in
+      ap (λ (m : ℕ). take m (trace n)) (sub-zero (next n .len)) ∙ written (head n .loop .inv .0) (next n) (trace n) (follows n) (some before-run) .joined
+
   fed : _≡_ {A = Left Held} given
       (record { number = 0; consumed = length (joinedUp records); written = length part; held = heldOf (carrying (all-ran .state) []); answers = all-ran .answer })
   fed =
@@ -210,11 +226,9 @@ module _ (c : tie.After-run-input Inv-loop μ-loop) where
       let o = head n .loop in
       let a = entry (head n) .args in
       let v = written (o .inv .0) (next n) (trace n) (follows n) (some before-run) in
-      let e : length part ≡ o .w + next n .answers - o .w = length-take-le (o .w + next n .answers - o .w) (drop (o .w) (o .answers)) (omega (arith, room before-run, length-drop (o .w) (o .answers))) in
-      let l : length part ≡ 8 * length records = omega (arith, e, v .eight) in
-      c .run-input .ensures
-      ∙ ap (λ (bs : List ℕ). feeds (a .setup) (now (a .defaults)) (heldOf (carrying (present before-run) [])) bs part) (ap (λ (m : ℕ). take m (trace n)) (sub-zero (next n .len)) ∙ v .joined)
-      ∙ fed-wholes (a .setup) (now (a .defaults)) (present before-run) (not-refused before-run) records (v .wholes) part l
+      c .run-input .ensures .0
+      ∙ ap (λ (bs : List ℕ). feeds (a .setup) (now (a .defaults)) (heldOf (carrying (present before-run) [])) bs part) bytes-of-records
+      ∙ fed-wholes (a .setup) (now (a .defaults)) (present before-run) (not-refused before-run) records (v .wholes) part room-for
 
 loop-less : tie.Need-loop-less Inv-loop μ-loop
 loop-less c = let e = c .before .before .before .before .before .before .before .before .before .before .before .before .before .before .before .before .before .before .before in let l = head (at-next e) in omega (arith, some e, room e, l .loop .inv .0 .long)
@@ -224,7 +238,8 @@ loop-again c =
     let f = c .before .before .before .before .before .before .before .before .before .before .before in
     let n = at-next (before-run f) in
     let o = head n .loop in (
-      stretched (o .inv .0) (next n) (trace n) (follows n) (some (before-run f)) _ _ _ _ _ (λ i. record { state = stateOf (fed f i .held); answer = fed f i .answers }),
+      stretched (o .inv .0) (next n) (trace n) (follows n) (some (before-run f)) _ _ _ _ _ _ (λ i. record { state = stateOf (fed f i .held); answer = fed f i .answers })
+          (f .run-input .ensures .1 (records f) (written (o .inv .0) (next n) (trace n) (follows n) (some (before-run f)) .wholes) (bytes-of-records f) (omega (arith, room-for f))),
       omega (arith, c .before .before .before .before .before .before .before .before .before .before .phases .given, o .inv .1),
       long (c .before .before .before .before .before .before .before .before .before .before .before .before .before .before .before .before .before .before .before .before .before),
     )

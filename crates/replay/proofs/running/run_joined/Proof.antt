@@ -2,17 +2,20 @@
 -- Written by `tools/paths --write replay running/run_joined`.
 use Prim.Native.Nat.{ℕ, _+_, _-_, _≤_}
 use native.Mathlib.Omega.{arith}
-use mathlib.Core.Path.{_≡_, sym, ap, _∙_}
-use mathlib.Core.List.{List, [], _++_, append-nil}
+use mathlib.Core.Path.{_≡_, sym, ap, _∙_, subst}
+use mathlib.Core.List.{List, [], _∷_, _++_, append-nil}
 use lib.ListN.{length, take, drop, replicate, length-append, length-drop}
 use lib.Seq.{length-take-le, take-length, take-at, drop-at, drop-length}
 use denote.Ref.{now}
 use borrow.Author.Needs.{needs}
-use Rattle.trace.specs.Format.{Bytes, longest}
+use Rattle.trace.specs.Format.{Bytes, longest, next, complete}
+use Rattle.trace.proofs.Loop.{next-itself}
 use Rattle.trace.specs.Bench.{Ran}
 use Rattle.trace.specs.Lent.{Left, refusalOr31}
-use Rattle.bits.proofs.Bytes.{bytes-of}
-use Rattle.readiness.specs.inner.Phases.{statusesIn}
+use Rattle.bits.proofs.Bytes.{bytes-of, bytes-take, bytes-append}
+use Rattle.readiness.specs.inner.Phases.{statusesIn, momentsIn}
+use Rattle.readiness.specs.declared.Moment.{Moment}
+use Rattle.readiness.proofs.PhaseNumbers.{moments-length}
 use Rattle.records.specs.State.{State}
 use Rattle.execute.specs.inner.Lent.{stateIn}
 use Rattle.demand3.specs.Held.{Held, held, opened, stateOf, carriedOf}
@@ -24,8 +27,10 @@ use Rattle.feed.proofs.Accepting.{Accepted, accepted}
 use Rattle.feed.proofs.NoRecord.{carried-bytes}
 use Rattle.feed.proofs.Carried.{Joins, got, first, room-first, bytes-first, few-first, there-first, carried-less, eight-answers, between, between-accepted, opened-accepted, first-call}
 use Rattle.feed.proofs.Carried as carried
-use Rattle.replay_rules.specs.Replaying.{HeldWith}
-use Rattle.replay.specs.Left.{leftInPlace}
+use Rattle.replay_rules.specs.KeepingMoments.{HeldNoting}
+use Rattle.replay.specs.Left.{leftNoting}
+use Rattle.replay.specs.inner.Noted.{Noted, notingDevice, notedWith, notedIn}
+use Rattle.replay.proofs.Feeding.{one-noted}
 use Rattle.replay.specs.inner.Calls.{comesTo}
 use Rattle.replay.proofs.NextStep.{take-few}
 use Rattle.replay.proofs.Joining.{joined}
@@ -79,6 +84,15 @@ given c = let x = c .run-input in feed.leftInPlace (x .result) (x .last .1 .1 .1
 abbrev ran : tie.After-run-input → Ran State
 ran c = carried.ran (joins (at-carried c))
 
+-- its bytes run
+bytes-are : (c : tie.After-run-input) → take (entry c .args .size - 0) (c .before .before .before .before .before .before .before .first-bytes .result) ≡ first (joins (at-carried c))
+bytes-are c =
+    let a = entry c .args in
+    let j = joins (at-carried c) in
+    let t = take (a .size) (carriedOf (a .port) ++ now (a .input)) in
+    let n : length t ≡ a .size - 0 = omega (arith, length-take-le (a .size) (carriedOf (a .port) ++ now (a .input)) (there-first j)) in
+    ap (take (a .size - 0)) (c .before .before .before .before .before .before .before .first-bytes .ensures) ∙ take-at t (replicate (longest - length t) 0) (a .size - 0) n ∙ bytes-first j
+
 one : (c : tie.After-run-input) → let j = joins (at-carried c) in
     _≡_ {A = Left Held} (given c) (record { number = 0; consumed = length (first j); written = 8; held = between j; answers = ran c .answer })
 one c =
@@ -86,11 +100,9 @@ one c =
     let a = entry c .args in
     let j = joins b in
     let room = take (8 - 0) (now (a .answers)) in
-    let t = take (a .size) (carriedOf (a .port) ++ now (a .input)) in
-    let n : length t ≡ a .size - 0 = omega (arith, length-take-le (a .size) (carriedOf (a .port) ++ now (a .input)) (there-first j)) in
-    c .run-input .ensures
+    c .run-input .ensures .0
     ∙ ap (λ (l : List ℕ). feeds (a .setup) (now (a .defaults)) (heldIn (opened (a .port .dev)) (now (a .phases)) (now (a .live)) (now (a .cells))) l room)
-    (ap (take (a .size - 0)) (c .before .before .before .before .before .before .before .first-bytes .ensures) ∙ take-at t (replicate (longest - length t) 0) (a .size - 0) n ∙ bytes-first j)
+    (bytes-are c)
     ∙ first-call j room (length-take-le 8 (now (a .answers)) (room-first j))
 
 -- the state then
@@ -99,6 +111,24 @@ after c = let x = c .run-input in stateIn (x .result .port .dev) (x .last .1 .1 
 
 after-is : (c : tie.After-run-input) → _≡_ {A = Ran State} (record { state = after c; answer = given c .answers }) (ran c)
 after-is c = λ i. record { state = stateOf (one c i .held); answer = one c i .answers }
+
+-- and with the moments
+abbrev moments-then : tie.After-run-input → List ℕ
+moments-then c = momentsIn (c .run-input .last .1 .1 .1 .0)
+
+noted-is : (c : tie.After-run-input) (kept : List Moment) → let a = entry c .args in
+    _≡_ {A = Ran Noted} (record { state = notedWith kept (after c) (moments-then c); answer = given c .answers })
+    (notingDevice (a .setup) (now (a .defaults)) .run (notedIn kept (a .port .dev) (now (a .phases)) (now (a .live)) (now (a .cells))) (first (joins (at-carried c))))
+noted-is c kept =
+    let s = entry c in
+    let a = s .args in
+    let j = joins (at-carried c) in
+    let whole : next (first j) ≡ complete (first j) = next-itself (carriedOf (a .port) ++ now (a .input)) (first j) (got j .0 .is) in
+    let room : length (take (8 - 0) (now (a .answers))) ≡ 8 = length-take-le 8 (now (a .answers)) (room-first j) in
+    one-noted (a .setup) (now (a .defaults)) (stateIn (a .port .dev) (now (a .phases)) (now (a .live)) (now (a .cells))) (first j) whole
+    (subst Bytes (bytes-first j) (bytes-take (a .size) (carriedOf (a .port) ++ now (a .input)) (bytes-append (carriedOf (a .port)) (now (a .input)) (j .carriedBytes) (j .inputBytes))))
+    (relies s .good) (momentsIn (now (a .phases))) (moments-length (now (a .phases))) (after c) (moments-then c) (given c .answers) (after-is c)
+    (c .run-input .ensures .1 (first j ∷ []) (whole, tt) (bytes-are c ∙ sym (append-nil (first j))) (omega (arith, room))) kept
 
 -- what is lent then is not refused
 not-refused : (c : tie.After-run-input) → let a = entry c .args in
@@ -187,15 +217,18 @@ run-entries-requires c κs = let t = c .before .before .before .before .before .
 abbrev first-run : tie.After-run-entries → tie.After-run-input
 first-run c = c .before .before .before .before .before .before .before .before .before .before .before .before .before .before .before
 
-abbrev rest : tie.After-run-entries → Left HeldWith
-rest c =
+abbrev rest : tie.After-run-entries → List Moment → Left HeldNoting
+rest c kept =
     let x = c .run-entries in
-    leftInPlace (x .result) (x .last .1 .1 .1 .1 .0) (x .last .1 .1 .1 .1 .1 .0) (x .last .1 .1 .1 .1 .1 .1 .1 .0) (x .last .1 .1 .1 .1 .1 .1 .1 .1 .1 .0)
+    leftNoting kept (x .result) (x .last .1 .1 .1 .1 .0) (x .last .1 .1 .1 .1 .1 .0) (x .last .1 .1 .1 .1 .1 .1 .1 .0) (x .last .1 .1 .1 .1 .1 .1 .1 .1 .1 .0)
 
-rest-is : (c : tie.After-run-entries) → let t = first-run c in
+abbrev answers-then : tie.After-run-entries → List ℕ
+answers-then c = c .run-entries .last .1 .1 .1 .1 .1 .1 .1 .1 .1 .0
+
+rest-is : (c : tie.After-run-entries) (kept : List Moment) → let t = first-run c in
     let a = entry t .args in
-    rest c ≡ comesTo (a .setup) (now (a .defaults)) (after t) [] (progressIn (a .begun)) (drop (a .size - length (carriedOf (a .port))) (now (a .input))) (drop 8 (slice t))
-rest-is c =
+    rest c kept ≡ comesTo (a .setup) (now (a .defaults)) (notedWith kept (after t) (moments-then t)) [] (progressIn (a .begun)) (drop (a .size - length (carriedOf (a .port))) (now (a .input))) (drop 8 (slice t))
+rest-is c kept =
     let t = first-run c in
     let a = entry t .args in
     let m = a .size - a .port .«carried_len» in
@@ -204,8 +237,8 @@ rest-is c =
     let j : drop m (now (a .input)) ≡ drop (a .size - length (carriedOf (a .port))) (now (a .input)) = ap (λ (n : ℕ). drop (a .size - n) (now (a .input))) (sym (long (entry t))) in
     let r : take (length (slice t) - 8) (drop 8 (slice t)) ≡ drop 8 (slice t) =
     ap (λ (n : ℕ). take n (drop 8 (slice t))) (sym (length-drop 8 (slice t))) ∙ take-length (drop 8 (slice t)) in
-    _∙_ {A = Left HeldWith} (c .run-entries .ensures .0)
-    (λ k. comesTo (a .setup) (now (a .defaults)) (after t) [] (progressIn (a .begun)) ((i ∙ j) k) (r k))
+    _∙_ {A = Left HeldNoting} (c .run-entries .ensures .0 kept)
+    (λ k. comesTo (a .setup) (now (a .defaults)) (notedWith kept (after t) (moments-then t)) [] (progressIn (a .begun)) ((i ∙ j) k) (r k))
 
 after-record-requires : tie.Need-after-record-requires
 after-record-requires c κs =
@@ -234,7 +267,7 @@ same-length-4 c =
     let g = c .before .before .before .before .before .before .before .before .before in
     let f = first-run g in
     let l = drop 8 (slice f) in
-    let w = rest g .answers in
+    let w = answers-then g in
     let n : length (take 8 (slice f) ++ (w ++ drop (length (slice f) - 8) l)) ≡ length (now (entry f .args .answers)) =
     omega (arith, length-append (take 8 (slice f)) (w ++ drop (length (slice f) - 8) l), length-append w (drop (length (slice f) - 8) l), length-take-le 8 (slice f) (room-left f), length-drop (length (slice f) - 8) l, length-drop 8 (slice f), length-slice f, c .before .before .answers2 .given, room-left f) in
     n
@@ -247,14 +280,14 @@ returns c =
     let a = s .args in
     let j = joins (at-carried f) in
     let l = drop 8 (slice f) in
-    let w = rest g .answers in
+    let w = answers-then g in
     let none : drop (length (slice f) - 8) l ≡ [] = ap (λ (n : ℕ). drop n l) (sym (length-drop 8 (slice f))) ∙ drop-length l in
     let final : take 8 (slice f) ++ (w ++ drop (length (slice f) - 8) l) ≡ take 8 (slice f) ++ w = (λ i. take 8 (slice f) ++ (w ++ none i)) ∙ ap (λ (x : List ℕ). take 8 (slice f) ++ x) (append-nil w) in
-    rw (c .after-record .ensures)
-    (_∙_ {A = Left HeldWith}
-    (λ i. record { number = rest g .number; consumed = a .size - sym (long s) i + rest g .consumed; written = 8 + rest g .written; held = rest g .held; answers = final i })
-    (joined (a .setup) (now (a .defaults)) (stateIn (a .port .dev) (now (a .phases)) (now (a .live)) (now (a .cells))) (carriedOf (a .port)) (now (a .input)) (now (a .answers)) (progressIn (a .begun)) (relies s .begun) (omega (arith, long s, s .pre .1 .1 .1 .0))
-    (a .size) (got j .0) (got j .1) (after f) (given f .answers) (after-is f) (slice f) (front-is f) (back-is f) (rest g) (rest-is g)))
+    λ kept. rw (c .after-record .ensures)
+    (_∙_ {A = Left HeldNoting}
+    (λ i. let x = rest g kept in record { number = x .number; consumed = a .size - sym (long s) i + x .consumed; written = 8 + x .written; held = x .held; answers = final i })
+    (joined (a .setup) (now (a .defaults)) (notedIn kept (a .port .dev) (now (a .phases)) (now (a .live)) (now (a .cells))) (carriedOf (a .port)) (now (a .input)) (now (a .answers)) (progressIn (a .begun)) (relies s .begun) (omega (arith, long s, s .pre .1 .1 .1 .0))
+    (a .size) (got j .0) (got j .1) (notedWith kept (after f) (moments-then f)) (given f .answers) (noted-is f kept) (slice f) (front-is f) (back-is f) (rest g kept) (rest-is g kept)))
 
 pub run-joined-spec : {M : Type 1} → statement M
 run-joined-spec =

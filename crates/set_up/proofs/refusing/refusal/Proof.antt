@@ -29,7 +29,7 @@ number-is c words e =
     let s = c .before .before .before .before in
     c .set-up-refusal .ensures ∙ refusal-held (s .args .setup) (now (s .args .defaults)) (lent s words) _ _ _ (statuses-length (now (s .args .phases))) e (search needs)
 
-fits : (c : tie.Else1) → let a = c .before .before .before .before .before .args in Fits (a .setup .slots) (length (now (a .phases)) / 3) (a .live) (length (now (a .defaults)))
+fits : (c : tie.Else1) → let a = c .before .before .before .before .before .args in Fits (a .setup .slots) (length (now (a .phases)) / 4) (a .live) (length (now (a .defaults)))
 fits c = fits-of _ _ _ _ (set-up-fits _ _ _ _ _ (sym (c .before .set-up-refusal .ensures) ∙ c .if1 .left) .lengths)
 
 not-set-up : (c : tie.Else1) (words : List ℕ) → let s = c .before .before .before .before .before in length words ≡ s .args .live

@@ -12,7 +12,7 @@ use Rattle.settle.proofs.phases.in_numbers.Statement.{statement}
 use Rattle.settle.proofs.phases.in_numbers.Tie as tie
 
 abbrev Inv-loop : tie.InvT-loop
-Inv-loop statuses phases₀ i₀ phases i = (i ≤ 32) × (length phases ≡ 96) × (take i (statusesIn phases) ≡ take i statuses)
+Inv-loop statuses phases₀ i₀ phases i = (i ≤ 32) × (length phases ≡ 128) × (take i (statusesIn phases) ≡ take i statuses)
 
 abbrev μ-loop : tie.MeasureT-loop
 μ-loop statuses phases₀ i₀ phases i = 32 - i
@@ -44,7 +44,7 @@ loop-again c =
     let n : length (l .before .args .t1) ≡ 32 = search needs in (
       omega arith,
       omega (arith, c .before .put-status .kept),
-      ap (take (l .loop .i + 1)) (c .before .put-status .ensures) ∙ take-put (statusesIn (l .loop .phases)) (l .before .args .t1) down _ (l .loop .i) (omega (arith, statuses-length (l .loop .phases))) (omega arith) (l .loop .inv .2) refl,
+      ap (take (l .loop .i + 1)) (c .before .put-status .ensures .0) ∙ take-put (statusesIn (l .loop .phases)) (l .before .args .t1) down _ (l .loop .i) (omega (arith, statuses-length (l .loop .phases))) (omega arith) (l .loop .inv .2) refl,
     )
 
 returns : tie.Need-returns Inv-loop μ-loop

@@ -25,7 +25,7 @@ slice-aggregate-status-at c = search needs
 status-at-requires : tie.Need-status-at-requires Inv-loop μ-loop
 status-at-requires c κs =
     let a = c .before .before .before .args .t1 in
-    let n : length a ≡ 96 = search needs in
+    let n : length a ≡ 128 = search needs in
     omega (arith, statuses-length a)
 
 mul-statuses : tie.Need-mul-statuses Inv-loop μ-loop
@@ -44,14 +44,14 @@ loop-again : tie.Need-loop-again Inv-loop μ-loop
 loop-again c =
     let l = c .before .before .before in
     let a = l .before .args .t1 in
-    let n : length a ≡ 96 = search needs in
+    let n : length a ≡ 128 = search needs in
     (omega arith, simp length-set (l .loop .inv .1), take-put (l .loop .statuses) (statusesIn a) _ _ (l .loop .i) (omega arith) (omega (arith, statuses-length a)) (l .loop .inv .2) (c .status-at .ensures))
 
 returns : tie.Need-returns Inv-loop μ-loop
 returns c =
     let l = c .before in
     let a = l .before .args .t1 in
-    let n : length a ≡ 96 = search needs in
+    let n : length a ≡ 128 = search needs in
     take-both (l .loop .statuses) (statusesIn a) (l .loop .i) (omega arith) (omega (arith, statuses-length a)) (l .loop .inv .2)
 
 pub in-statuses-spec : {M : Type 1} → statement M

@@ -1,7 +1,7 @@
 -- `settle::phases::put_status` meets its contract.
 use native.Mathlib.Omega.{arith}
 use lib.ListN.{length-set}
-use Rattle.readiness.proofs.PhaseNumbers.{statuses-place, put-down, put-ready, put-link-up, put-d3hot, put-flr}
+use Rattle.readiness.proofs.PhaseNumbers.{statuses-place, put-down, put-ready, put-link-up, put-d3hot, put-flr, stays, stays-timed, stays-flr}
 use borrow.Author.Needs.{needs}
 use Rattle.settle.proofs.phases.put_status.Statement.{statement}
 use Rattle.settle.proofs.phases.put_status.Tie as tie
@@ -85,31 +85,31 @@ same-length : tie.Need-same-length
 same-length c = search needs
 
 returns : tie.Need-returns
-returns c = let s = c .before .before .before in put-down (s .args .phases .now) (s .args .i) (s .args .status) (s .pre) (c .enum-told .given .1)
+returns c = let s = c .before .before .before in (put-down (s .args .phases .now) (s .args .i) (s .args .status) (s .pre) (c .enum-told .given .1), stays (s .args .phases .now) (s .args .i) 0)
 
 same-length-2 : tie.Need-same-length-2
 same-length-2 c = search needs
 
 returns-2 : tie.Need-returns-2
-returns-2 c = let s = c .before .before .before in put-ready (s .args .phases .now) (s .args .i) (s .args .status) (s .pre) (c .enum-told2 .given .1)
+returns-2 c = let s = c .before .before .before in (put-ready (s .args .phases .now) (s .args .i) (s .args .status) (s .pre) (c .enum-told2 .given .1), stays (s .args .phases .now) (s .args .i) 4)
 
 same-length-3 : tie.Need-same-length-3
 same-length-3 c = search needs
 
 returns-3 : tie.Need-returns-3
-returns-3 c = let s = c .before .before .before .before .before .before .before in put-link-up (s .args .phases .now) (s .args .i) (s .args .status) (s .pre) _ _ _ (c .before .before .before .before .phase .given .1) (c .before .before .nanos-number .ensures) (c .enum-told3 .given .1)
+returns-3 c = let s = c .before .before .before .before .before .before .before in (put-link-up (s .args .phases .now) (s .args .i) (s .args .status) (s .pre) _ _ _ (c .before .before .before .before .phase .given .1) (c .before .before .nanos-number .ensures) (c .enum-told3 .given .1), stays-timed (s .args .phases .now) (s .args .i) 1 _)
 
 same-length-4 : tie.Need-same-length-4
 same-length-4 c = search needs
 
 returns-4 : tie.Need-returns-4
-returns-4 c = let s = c .before .before .before .before .before .before .before in put-d3hot (s .args .phases .now) (s .args .i) (s .args .status) (s .pre) _ _ _ (c .before .before .before .before .phase .given .1) (c .before .before .nanos-number .ensures) (c .enum-told4 .given .1)
+returns-4 c = let s = c .before .before .before .before .before .before .before in (put-d3hot (s .args .phases .now) (s .args .i) (s .args .status) (s .pre) _ _ _ (c .before .before .before .before .phase .given .1) (c .before .before .nanos-number .ensures) (c .enum-told4 .given .1), stays-timed (s .args .phases .now) (s .args .i) 3 _)
 
 same-length-5 : tie.Need-same-length-5
 same-length-5 c = search needs
 
 returns-5 : tie.Need-returns-5
-returns-5 c = let s = c .before .before .before .before .before .before .before .before .before in put-flr (s .args .phases .now) (s .args .i) (s .args .status) (s .pre) _ _ _ (c .before .before .before .before .before .before .phase .given .1) (c .before .before .before .before .nanos-number .ensures) _ _ (c .before .before .cause .given .1) (c .nanos-number2 .ensures)
+returns-5 c = let s = c .before .before .before .before .before .before .before .before .before in (put-flr (s .args .phases .now) (s .args .i) (s .args .status) (s .pre) _ _ _ (c .before .before .before .before .before .before .phase .given .1) (c .before .before .before .before .nanos-number .ensures) _ _ (c .before .before .cause .given .1) (c .nanos-number2 .ensures), stays-flr (s .args .phases .now) (s .args .i) 2 _ _)
 
 pub put-status-spec : {M : Type 1} → statement M
 put-status-spec =

@@ -11,7 +11,7 @@ use Rattle.readiness.specs.declared.Cause.the-variants.{LinkUp}
 use Rattle.readiness.specs.declared.Status.{Status}
 use Rattle.readiness.specs.declared.Setup.{Setup}
 use Rattle.readiness.specs.Status.{pending, entryOf, eachFrom, readyAfterLinkUp}
-use Rattle.readiness.specs.inner.Phases.{statusesIn}
+use Rattle.readiness.specs.inner.Phases.{statusesIn, momentsIn}
 use Rattle.settle.proofs.Statuses.{each-none, each-more}
 use Rattle.readiness.proofs.PhaseNumbers.{statuses-same}
 use borrow.Author.Needs.{needs}
@@ -22,13 +22,13 @@ abbrev started : Setup → Nanos → ℕ → Status
 started setup clock slot = pending LinkUp (sumOf clock (nanosOf (entryOf setup slot .«dl_up»)))
 
 abbrev Inv-loop : tie.InvT-loop
-Inv-loop phases₀ setup clock i₀ phases i = (i ≤ setup .slots) × (length phases ≡ length phases₀) × (statusesIn phases ≡ eachFrom 0 i (started setup clock) (statusesIn phases₀))
+Inv-loop phases₀ setup clock i₀ phases i = (i ≤ setup .slots) × (length phases ≡ length phases₀) × (statusesIn phases ≡ eachFrom 0 i (started setup clock) (statusesIn phases₀)) × (momentsIn phases ≡ momentsIn phases₀)
 
 abbrev μ-loop : tie.MeasureT-loop
 μ-loop phases₀ setup clock i₀ phases i = setup .slots - i
 
 loop-holds : tie.Need-loop-holds Inv-loop μ-loop
-loop-holds c = (omega arith, refl, sym (each-none _ 0 0 _ (omega arith)))
+loop-holds c = (omega arith, refl, sym (each-none _ 0 0 _ (omega arith)), refl)
 
 mul-entry : tie.Need-mul-entry Inv-loop μ-loop
 mul-entry c = search needs
@@ -54,9 +54,10 @@ loop-again c =
     let a = l .before .before .before .args in (
       omega arith,
       omega (arith, c .before .before .put-status .kept, l .loop .inv .1),
-      c .before .before .put-status .ensures
+      c .before .before .put-status .ensures .0
           ∙ ap₂ (λ (o : List Status) (s : Status). set o (l .loop .i) s) (l .loop .inv .2) (c .before .before .before .link-up-status .ensures)
           ∙ each-more (started (a .t1) (a .dev .clock)) (l .loop .i) (statusesIn (a .phases .now)) (omega arith),
+      c .before .before .put-status .ensures .1 ∙ l .loop .inv .3,
     )
 
 same-length : tie.Need-same-length Inv-loop μ-loop
@@ -68,7 +69,7 @@ returns c =
     let l = c .before in
     let a = l .before .before .before .args in
     let e : l .loop .i ≡ a .t1 .slots = omega arith in
-    l .loop .inv .2 ∙ ap (λ (n : ℕ). eachFrom 0 n (started (a .t1) (a .dev .clock)) (statusesIn (a .phases .now))) e
+    (l .loop .inv .2 ∙ ap (λ (n : ℕ). eachFrom 0 n (started (a .t1) (a .dev .clock)) (statusesIn (a .phases .now))) e, l .loop .inv .3)
 
 pub start-all-spec : {M : Type 1} → statement M
 start-all-spec =

@@ -18,13 +18,13 @@ returns : tie.Need-returns
 unfolding nextPlace
 returns c =
     let args = c .before .args in
-    ap (λ (b : Bool). args .at + cond b (args .count) 10) (sym (le-leb (args .count) 10 (c .if1 .taken)))
+    ap (λ (b : Bool). args .at + cond b (args .count) (args .most)) (sym (le-leb (args .count) (args .most) (c .if1 .taken)))
 
 returns-2 : tie.Need-returns-2
 unfolding nextPlace
 returns-2 c =
     let args = c .before .args in
-    ap (λ (b : Bool). args .at + cond b (args .count) 10) (sym (lt-leb (args .count) 10 (c .if1 .left)))
+    ap (λ (b : Bool). args .at + cond b (args .count) (args .most)) (sym (lt-leb (args .count) (args .most) (c .if1 .left)))
 
 pub first-wrong-spec : {M : Type 1} → statement M
 first-wrong-spec = tie.close (tie.spec add-result add-result-2 returns returns-2)

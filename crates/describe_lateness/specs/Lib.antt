@@ -1,0 +1,5 @@
+pub mod Signed
+pub mod Rows
+pub mod Totals
+pub mod Csv
+pub mod Refusals

@@ -1,0 +1,12 @@
+pub mod Ints
+pub mod Order
+pub mod Counts
+pub mod Picks
+pub mod Steps
+pub mod Refusals
+pub mod Reorder
+pub mod SameTimes
+pub mod Differences
+pub mod Reports
+pub mod Examples
+pub mod Sizes

@@ -1,0 +1,4 @@
+pub mod Lines
+pub mod Exactly
+pub mod Results
+pub mod Examples

@@ -6,10 +6,10 @@ use mathlib.Core.Bool.{Bool, true, false, _&&_, _||_, cond}
 use mathlib.Core.List.{List, [], _∷_, _++_, append-nil, append-assoc}
 use native.Mathlib.Omega.{arith}
 use lib.Dec.{leb, ltb}
-use lib.ListN.{length, set, take, length-append, length-set}
-use lib.Seq.{take-suc-set, set-out, length-take-le}
+use lib.ListN.{length, take}
+use lib.Seq.{length-take-le}
 use lib.IntN.{ℤ}
-use borrow.Author.Tests.{ltb-true, ltb-false, lt-ltb, le-ltb, lt-leb}
+use borrow.Author.Tests.{ltb-true, ltb-false, lt-leb}
 use Rattle.bits.proofs.Choices.{when-true, when-false}
 use Rattle.bits.proofs.Tests.{split}
 use Rattle.readiness.specs.declared.Moment.{Moment}
@@ -19,59 +19,15 @@ use Rattle.lateness.specs.declared.Lateness.the-variants.{NoDifference, Of, Out
 use Rattle.lateness.specs.declared.Report.{Report}
 use Rattle.lateness.specs.Lateness.{benchTime, latenessOf, apart, within, minus}
 use Rattle.lateness.specs.Totals.{allWithin, refused, report, longestList}
-use Rattle.score.specs.Scores.{Lists, differenceAt, nextCount, kept, withDifference, collected, totalOf}
+use Rattle.score.specs.Scores.{Lists, differenceAt, kept, withDifference, collected, totalOf}
 use Rattle.score.specs.Together.{Captured, given, isOutside, differencesOf, outsideOf, differencesIn, outsideIn, collectedIn, atStart, Together}
+use Rattle.score.proofs.Filling.{Filled, room, not-over, lengths, one-more, at-first}
 
--- ---- What the lists hold: the differences so far, of which at most 9,001 stand there
+-- ---- What the lists hold: the differences so far, and whether one was refused
 
-record Holds (l : Lists) (out : Bool) (all : List ℤ) : Type 0 where
-  low : l .count ≤ 9001
-  long : length (l .values) ≡ 9001
-  rest : List ℤ
-  is : take (l .count) (l .values) ++ rest ≡ all
-  over : l .count < 9001 → rest ≡ []
-  outside : l .outside ≡ out
-
-module _ (l : Lists) (out : Bool) (all : List ℤ) (h : Holds l out all) where
-  -- one more, where there is room
-  fits : (slot : ℕ) (d : ℤ) → l .count < 9001 → Holds (kept slot d l) out (all ++ (d ∷ []))
-  unfolding kept nextCount
-  fits slot d q =
-      let n : nextCount (l .count) ≡ l .count + 1 = when-true (ltb (l .count) 9001) _ _ (lt-ltb (l .count) 9001 q) in
-      let room : l .count < length (l .values) = let e = h .long in omega (arith, e, q) in
-      let whole : take (l .count) (l .values) ≡ all = sym (append-nil (take (l .count) (l .values))) ∙ ap (λ (r : List ℤ). take (l .count) (l .values) ++ r) (sym (h .over q)) ∙ h .is in
-      record {
-        low = omega (arith, n, q);
-        long = length-set (l .values) (l .count) d ∙ h .long;
-        rest = [];
-        is = append-nil (take (nextCount (l .count)) (set (l .values) (l .count) d))
-            ∙ ap (λ (k : ℕ). take k (set (l .values) (l .count) d)) (n ∙ (let e : l .count + 1 ≡ suc (l .count) = omega arith in e))
-            ∙ take-suc-set (l .values) (l .count) d room
-            ∙ ap (λ (r : List ℤ). r ++ (d ∷ [])) whole;
-        over = λ _. refl;
-        outside = h .outside;
-      }
-
-  -- one more, where there is none
-  passes : (slot : ℕ) (d : ℤ) → 9001 ≤ l .count → Holds (kept slot d l) out (all ++ (d ∷ []))
-  unfolding kept nextCount
-  passes slot d q =
-      let n : nextCount (l .count) ≡ l .count = when-false (ltb (l .count) 9001) _ _ (le-ltb (l .count) 9001 q) in
-      let same : set (l .values) (l .count) d ≡ l .values = set-out (l .values) (l .count) d (let e = h .long in omega (arith, e, q)) in
-      record {
-        low = let e = h .low in omega (arith, n, e);
-        long = ap length same ∙ h .long;
-        rest = h .rest ++ (d ∷ []);
-        is = ap (λ (r : List ℤ). take (nextCount (l .count)) r ++ (h .rest ++ (d ∷ []))) same
-            ∙ ap (λ (k : ℕ). take k (l .values) ++ (h .rest ++ (d ∷ []))) n
-            ∙ sym (append-assoc (take (l .count) (l .values)) (h .rest) (d ∷ []))
-            ∙ ap (λ (r : List ℤ). r ++ (d ∷ [])) (h .is);
-        over = λ r. absurd (omega (arith, n, q, r));
-        outside = h .outside;
-      }
-
-  one-more : (slot : ℕ) (d : ℤ) → Holds (kept slot d l) out (all ++ (d ∷ []))
-  one-more slot d = split (ltb (l .count) 9001) (λ e. fits slot d (ltb-true (l .count) 9001 e)) (λ e. passes slot d (ltb-false (l .count) 9001 e))
+pub record Holds (l : Lists) (out : Bool) (all : List ℤ) : Type 0 where
+  pub filled : Filled (l .count) (l .values) all
+  pub outside : l .outside ≡ out
 
 or-false : (b : Bool) → b ≡ b || false
 or-false true = refl
@@ -90,11 +46,10 @@ anew l out out′ all all′ p q h = subst (λ (b : Bool). Holds l b all′) p (
 
 -- a slot's difference
 with-one : (l : Lists) (out : Bool) (all : List ℤ) (slot : ℕ) (x : Lateness) → Holds l out all → Holds (withDifference slot x l) (out || isOutside x) (all ++ given x)
-unfolding withDifference isOutside given
+unfolding withDifference isOutside given kept
 with-one l out all slot NoDifference h = anew l out (out || false) all (all ++ []) (or-false out) (sym (append-nil all)) h
-with-one l out all slot (Of d) h = anew (kept slot d l) out (out || false) (all ++ (d ∷ [])) (all ++ (d ∷ [])) (or-false out) refl (one-more l out all h slot d)
-with-one l out all slot Outside h =
-    record { low = h .low; long = h .long; rest = h .rest; is = h .is ∙ sym (append-nil all); over = h .over; outside = or-true out }
+with-one l out all slot (Of d) h = anew (kept slot d l) out (out || false) (all ++ (d ∷ [])) (all ++ (d ∷ [])) (or-false out) refl (record { filled = one-more (l .count) (l .values) all (h .filled) d; outside = h .outside })
+with-one l out all slot Outside h = record { filled = subst (λ (r : List ℤ). Filled (l .count) (l .values) r) (sym (append-nil all)) (h .filled); outside = or-true out }
 
 -- a capture's
 with-capture : (slots : ℕ) (c : Captured) (n : ℕ) (l : Lists) (out : Bool) (all : List ℤ) → Holds l out all
@@ -172,24 +127,27 @@ module _ (l : Lists) (out : Bool) (all : List ℤ) (h : Holds l out all) (inside
 
   same-report : report there ≡ report all
   unfolding there
-  same-report = split (ltb (l .count) 9001)
-      (λ e. ap report (sym (append-nil there) ∙ ap (λ (r : List ℤ). there ++ r) (sym (h .over (ltb-true (l .count) 9001 e))) ∙ h .is))
+  same-report =
+      let f = h .filled in
+      split (ltb (l .count) 9001) (λ e. ap report (not-over (l .count) (l .values) all f (ltb-true (l .count) 9001 e)))
       (λ e.
-      let full : length there ≡ l .count = length-take-le (l .count) (l .values) (let a = h .low in let b = h .long in omega (arith, a, b)) in
+      let full : length there ≡ l .count = length-take-le (l .count) (l .values) (room (l .count) (l .values) all f) in
       let q = ltb-false (l .count) 9001 e in
-      let joined : length all ≡ length there + length (h .rest) = ap length (sym (h .is)) ∙ length-append there (h .rest) in
-      let w : allWithin there ≡ true = first-part (allWithin there) (allWithin (h .rest)) (sym (within-append there (h .rest)) ∙ ap allWithin (h .is) ∙ inside) in
-      too-many there w (omega (arith, full, q)) ∙ sym (too-many all inside (omega (arith, full, q, joined))))
+      let joined = lengths (l .count) (l .values) all f in
+      let w : allWithin there ≡ true = first-part (allWithin there) (allWithin (f .rest)) (sym (within-append there (f .rest)) ∙ ap allWithin (f .is) ∙ inside) in
+      too-many there w (omega (arith, full, q)) ∙ sym (too-many all inside (omega (arith, q, joined))))
 
   same-total : totalOf (l .outside) (l .count) (l .values) ≡ cond out (refused 34) (report all)
   unfolding totalOf there
   same-total =
-      let m : min (l .count) (length (l .values)) ≡ l .count = min-eq-left (let a = h .low in let b = h .long in omega (arith, a, b)) in
+      let m : min (l .count) (length (l .values)) ≡ l .count = min-eq-left (room (l .count) (l .values) all (h .filled)) in
       ap (λ (k : ℕ). cond (l .outside) (refused 34) (report (take k (l .values)))) m
       ∙ ap (λ (r : Report). cond (l .outside) (refused 34) r) same-report
       ∙ ap (λ (b : Bool). cond b (refused 34) (report all)) (h .outside)
 
+-- the values that were collected
+pub values-filled : (slots : ℕ) (cs : List Captured) (values : List ℤ) (of : List ℕ) → length values ≡ 9001 → Holds (collectedIn slots cs (atStart values of)) (outsideIn slots cs) (differencesIn slots cs)
+values-filled slots cs values of e = with-all slots cs (atStart values of) false [] (record { filled = at-first values e; outside = refl })
+
 pub together : Together
-together slots cs values of e =
-    let start : Holds (atStart values of) false [] = record { low = omega arith; long = e; rest = []; is = refl; over = λ _. refl; outside = refl } in
-    same-total _ _ _ (with-all slots cs (atStart values of) false [] start) (in-within slots cs)
+together slots cs values of e = same-total _ _ _ (values-filled slots cs values of e) (in-within slots cs)

@@ -1,9 +1,11 @@
 // How many answers had each status.
+#![tactic(auto)]
+
 ghost use Rattle.std.specs.Prelude.{◌≡◌, ◌+◌, ◌%◌, ◌^◌, ◌<◌, replicate};
 ghost use Rattle.answer_counts.specs.Counts.{place_of, statuses_in, counted_in, all_on, any_refused};
 
 // How many answers had status 0, each of 16 to 25, and any other, in this order. Each count is modulo 2^64.
-#[derive(Drop)]
+#[derive(Clone, Copy)]
 pub struct Counts {
     pub by: [u64; 12],
 }

@@ -1,6 +1,6 @@
 -- What the types hold of a port: its carried array is of bytes.
 use Prim.Native.Nat.{ℕ}
-use mathlib.Core.List.{List, [], ◌∷◌, map}
+use mathlib.Core.List.{List, [], ◌∷◌}
 use mir.Val.{Val}
 use denote.Shadow.{shadow}
 use denote.Laws.{Is}
@@ -20,10 +20,5 @@ each_byte (x ∷ xs) (u ∷ us) s = (s.0.1, each_byte xs us s.1)
 bytes_of_array : (n : ℕ) (xs : List ℕ) (vs : List Val) → Is (Array u8-field.row n) xs vs → Bytes xs
 bytes_of_array n xs vs is = each_byte xs is.0 is.1.1
 
--- a field that is an array stands as its elements' values
-unmapped : (xs : List ℕ) → Bytes (map (λ (v : ℕ). v) xs) → Bytes xs
-unmapped [] b = tt
-unmapped (x ∷ xs) b = (b.0, unmapped xs b.1)
-
 pub carried_bytes_lem : (p : Port) (vs : List Val) → Is P.the_row p vs → Bytes p.carried
-carried_bytes_lem p vs is = unmapped p.carried (bytes_of_array 16 ((P.the_type).to p).1.0 _ (LL.owed P.the_type P'.the_laws p vs is).1.0)
+carried_bytes_lem p vs is = bytes_of_array 16 ((P.the_type).to p).1.0 _ (LL.owed P.the_type P'.the_laws p vs is).1.0

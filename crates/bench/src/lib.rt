@@ -1,4 +1,6 @@
 // The public entries: set-up and feed over memory that the caller lends, the port state and the slot statuses with it.
+#![tactic(auto)]
+
 ghost use Rattle.std.specs.Prelude.{◌≡◌};
 ghost use Rattle.demand3.specs.Held.{held};
 ghost use Rattle.demand3.specs.SettingUp.{sets_up};
@@ -12,7 +14,7 @@ use records::Port;
 use set_up::SetUp;
 
 // What a call of feed gives: its number, and how many bytes it consumed and wrote.
-#[derive(Drop)]
+#[derive(Clone, Copy)]
 pub struct Outcome {
     pub number: u8,
     pub consumed: usize,

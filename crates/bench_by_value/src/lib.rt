@@ -1,4 +1,6 @@
 // The public entries for callers that hold a port and an array of statuses by value.
+#![tactic(auto)]
+
 ghost use Rattle.std.specs.Prelude.{◌≡◌};
 ghost use Rattle.demand3.specs.Held.{held};
 ghost use Rattle.bench.specs.Entries.{left_by_set_up, left_by_feed, outcome_is};

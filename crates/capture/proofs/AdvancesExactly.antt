@@ -26,6 +26,7 @@ Sizes [] = Unit {0}
 Sizes (t ∷ ts) = Size t × Sizes ts
 
 each-size : (ts : List Nanos) → Sizes ts → (t : Nanos) → Among t ts → Size t
+each-size [] h t x = elim x [ ]
 each-size (u ∷ ts) h t here = h.0
 each-size (u ∷ ts) h t (there m) = each-size ts h.1 t m
 

@@ -7,7 +7,7 @@ use mathlib.Core.List.{List, [], ◌∷◌, ◌++◌}
 use lib.ListN.{length, drop}
 use lib.Dec.{ltb, eqb}
 use Rattle.times.specs.declared.Nanos.{Nanos}
-use Rattle.trace.specs.Format.{if◌then◌else◌}
+use Rattle.trace.specs.Format.{when◌then◌else◌}
 use Rattle.trace.specs.Bench.{Device, Bench}
 use Rattle.trace.specs.Feed.{Step, took, stop, byte}
 use Rattle.trace.specs.Lent.{unless}
@@ -17,7 +17,7 @@ use Rattle.capture.specs.Capture.{Role, of_stamp, of_kind, of_record, role_of}
 use Rattle.capture.specs.Replay.{Progress, Replayed, Does, takes, halts, ended_with, more_stamp, more_answered, begins, Advanced, one_more, in_record, at_kind, still, later, go_on, advancing, after_advances, kind_byte, byte_as, replay_open, replay}
 
 -- what a test leads to
-if_alike : {A B : Type 0} (f : A → B) (t : Bool) {a a' : A} {b b' : B} → f a ≡ b → f a' ≡ b' → f (if t then a else a') ≡ (if t then b else b')
+if_alike : {A B : Type 0} (f : A → B) (t : Bool) {a a' : A} {b b' : B} → f a ≡ b → f a' ≡ b' → f (when t then a else a') ≡ (when t then b else b')
 if_alike f true p q = p
 if_alike f false p q = q
 
@@ -136,7 +136,7 @@ module _ {S T : Type 0} (D : Device S) (E : Device T) (f : S → T) (g : List �
   alike_call p r room input = go r.ended
     where
       go : (n : ℕ)
-          → replayed_on f g (unless n (λ n. still n p r []) (if p.broken then still 31 p r [] else replay_open D p r room input))
-          ≡ unless n (λ n. still n (on p) r []) (if p.broken then still 31 (on p) r [] else replay_open E (on p) r room input)
+          → replayed_on f g (unless n (λ n. still n p r []) (when p.broken then still 31 p r [] else replay_open D p r room input))
+          ≡ unless n (λ n. still n (on p) r []) (when p.broken then still 31 (on p) r [] else replay_open E (on p) r room input)
       go zero = if_alike (replayed_on f g) p.broken (nothing 31 p r) (alike_open p r room input)
       go (suc n) = nothing (suc n) p r

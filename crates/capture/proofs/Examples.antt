@@ -10,7 +10,7 @@ use borrow.Author.Tests.{ne_eqb, eqb-false}
 use Rattle.times.specs.declared.Nanos.{Nanos}
 use Rattle.ticks.specs.declared.Stamp.{Stamp}
 use Rattle.ticks.specs.Ticks.{difference, went_back, in_nanos}
-use Rattle.trace.specs.Format.{if◌then◌else◌, size_of, known, body, whole, begun}
+use Rattle.trace.specs.Format.{when◌then◌else◌, size_of, known, body, whole, begun}
 use Rattle.trace.specs.Bench.{Ran, Device, Bench, cut_in, cut, runs, plain}
 use Rattle.trace.specs.Outcome.{Outcome}
 use Rattle.trace.specs.Feed.{byte}
@@ -113,7 +113,7 @@ abbrev lent : Lent ℕ (Bench ℕ)
 lent =
     record {
       device = toy;
-      set_up = λ h. if eqb h.state 0 then 3 else 0;
+      set_up = λ h. when eqb h.state 0 then 3 else 0;
       sound = λ h. begun h.carried;
       view = λ h. h;
       keep = λ p. p;
@@ -268,7 +268,7 @@ carried_first = refl
 abbrev Good : ℕ → Type 0
 Good s = eqb s 0 ≡ false
 
-set_up_good : (s : ℕ) → ◌≡◌ {A = ℕ} (if eqb s 0 then 3 else 0) 0 → Good s
+set_up_good : (s : ℕ) → ◌≡◌ {A = ℕ} (when eqb s 0 then 3 else 0) 0 → Good s
 set_up_good zero e = absurd (omega arith)
 set_up_good (suc s) e = ne_eqb (suc s) 0 (λ q. omega arith)
 

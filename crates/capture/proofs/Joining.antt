@@ -11,7 +11,7 @@ use lib.Seq.{drop-drop}
 use lib.Dec.{ltb, eqb}
 use borrow.Author.Tests.{le-ltb}
 use Rattle.times.specs.declared.Nanos.{Nanos}
-use Rattle.trace.specs.Format.{if◌then◌else◌}
+use Rattle.trace.specs.Format.{when◌then◌else◌}
 use Rattle.trace.specs.Bench.{Device, Bench}
 use Rattle.trace.specs.Feed.{Step, took, stop, byte}
 use Rattle.trace.proofs.Tests.{if_cases, if_false}
@@ -32,7 +32,7 @@ after_none : {S : Type 0} (x : Does S) → after [] x ≡ x
 after_none (takes p r a) = refl
 after_none (halts n p r a) = refl
 
-if_into : {A B : Type 0} (f : A → B) (t : Bool) {u v : A} {a b : B} → a ≡ f u → b ≡ f v → (if t then a else b) ≡ f (if t then u else v)
+if_into : {A B : Type 0} (f : A → B) (t : Bool) {u v : A} {a b : B} → a ≡ f u → b ≡ f v → (when t then a else b) ≡ f (when t then u else v)
 if_into f true p q = p
 if_into f false p q = q
 

@@ -3,14 +3,14 @@ use mathlib.Core.Path.{◌≡◌, refl}
 use mathlib.Core.Bool.{true}
 use lib.ListN.{length}
 use borrow.Author.Tests.{le-leb}
-use Rattle.trace.specs.Format.{if◌then◌else◌}
+use Rattle.trace.specs.Format.{when◌then◌else◌}
 use Rattle.trace.proofs.Lists.{take-pad}
 use Rattle.capture.specs.Advances.{Earlier, none, was, some}
 use Rattle.capture.specs.Replay.{Progress}
 use Rattle.capture.specs.Lent.{progress_in, stamp_fits, stamp_or0, replay_of}
 use Rattle.capture.specs.inner.Keeps.{Fits}
 
-same_earlier : (e : Earlier) → (if some e then was (stamp_or0 e) else none) ≡ e
+same_earlier : (e : Earlier) → (when some e then was (stamp_or0 e) else none) ≡ e
 same_earlier none = refl
 same_earlier (was e) = refl
 

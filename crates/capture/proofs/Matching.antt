@@ -10,7 +10,7 @@ use lib.Dec.{leb, eqb}
 use borrow.Author.Tests.{eqb-true, eq-eqb, ne_eqb, leb-true, le-leb, not-true}
 use Rattle.bits.proofs.Tests.{both, both_left, both_right, or_last, not_both}
 use Rattle.times.specs.declared.Nanos.{Nanos}
-use Rattle.trace.specs.Format.{if◌then◌else◌}
+use Rattle.trace.specs.Format.{when◌then◌else◌}
 use Rattle.trace.proofs.Tests.{if_true, if_false}
 use Rattle.capture.specs.Advances.{Earlier, some, stamp_in, back, between, due}
 use Rattle.capture.specs.Replay.{Progress, end_fits, matches}
@@ -30,7 +30,7 @@ module _ (e : Earlier) (stamp : List ℕ) where
   unfolding due
   some_due n h = go (eqb (length stamp) 4) is_back refl refl
     where
-      go : (x y : Bool) → eqb (length stamp) 4 ≡ x → is_back ≡ y → n ≤ length (if x then (if y then [] else between e (stamp_in stamp)) else []) → (length stamp ≡ 4) × (is_back ≡ false)
+      go : (x y : Bool) → eqb (length stamp) 4 ≡ x → is_back ≡ y → n ≤ length (when x then (when y then [] else between e (stamp_in stamp)) else []) → (length stamp ≡ 4) × (is_back ≡ false)
       go true false ex ey l = (eqb-true (length stamp) 4 ex, ey)
       go true true ex ey l = absurd (omega arith)
       go false y ex ey l = absurd (omega arith)
@@ -51,12 +51,12 @@ record Ended (e : Earlier) (stamp : List ℕ) (n : ℕ) : Type 0 where
 
 module _ (e : Earlier) (stamp : List ℕ) (n : ℕ) where
   abbrev fits : Bool
-  fits = eqb n 0 || (eqb (length stamp) 4 && eqb n (if back e (stamp_in stamp) then 32 else 33))
+  fits = eqb n 0 || (eqb (length stamp) 4 && eqb n (when back e (stamp_in stamp) then 32 else 33))
 
   fits_ended : fits ≡ true → Ended e stamp n
   fits_ended = go (eqb n 0) (eqb (length stamp) 4) (back e (stamp_in stamp)) refl refl refl
     where
-      go : (x y t : Bool) → eqb n 0 ≡ x → eqb (length stamp) 4 ≡ y → back e (stamp_in stamp) ≡ t → (x || (y && eqb n (if t then 32 else 33))) ≡ true → Ended e stamp n
+      go : (x y t : Bool) → eqb n 0 ≡ x → eqb (length stamp) 4 ≡ y → back e (stamp_in stamp) ≡ t → (x || (y && eqb n (when t then 32 else 33))) ≡ true → Ended e stamp n
       go true y t ex ey et q =
           let z = eqb-true n 0 ex in record { is = inl z; by32 = λ p. absurd (omega arith); by33 = λ p. absurd (omega arith) }
       go false false t ex ey et q = absurd (false≢true q)
@@ -72,10 +72,10 @@ module _ (e : Earlier) (stamp : List ℕ) (n : ℕ) where
       (λ w. ⊎_elim (λ p. by 32 true p (h.by32 p).0 (h.by32 p).1 refl) (λ p. by 33 false p (h.by33 p).0 (h.by33 p).1 refl) w)
       h.is
     where
-      by : (m : ℕ) (t : Bool) → n ≡ m → length stamp ≡ 4 → back e (stamp_in stamp) ≡ t → (if t then 32 else 33) ≡ m → fits ≡ true
+      by : (m : ℕ) (t : Bool) → n ≡ m → length stamp ≡ 4 → back e (stamp_in stamp) ≡ t → (when t then 32 else 33) ≡ m → fits ≡ true
       by m t p l b q =
           or_last (eqb n 0) _
-          (both _ _ (eq-eqb (length stamp) 4 l) (eq-eqb n _ (p ∙ sym q ∙ ap (λ (x : Bool). if x then 32 else 33) (sym b))))
+          (both _ _ (eq-eqb (length stamp) 4 l) (eq-eqb n _ (p ∙ sym q ∙ ap (λ (x : Bool). when x then 32 else 33) (sym b))))
 
 -- ---- the clauses
 empty : (l : List ℕ) → length l ≡ 0 → l ≡ []

@@ -4,8 +4,7 @@ use mathlib.Core.Path.{◌≡◌, refl, ap, sym, ◌∙◌}
 use mathlib.Core.List.{List, [], ◌∷◌, ◌++◌}
 use lib.ListN.{length}
 use Rattle.trace.specs.Bench.{Device, Ran, Bench, Benched, cut, runs, plain}
-use Rattle.trace.specs.Outcome.{first}
-use Rattle.trace.specs.Lent.{Lent, Left, unless, unchanged, refusal}
+use Rattle.trace.specs.Lent.{Lent, unless, unchanged, refusal}
 use Rattle.trace.specs.Calls.{Call, BytesIn}
 use Rattle.trace.specs.inner.Keeps.{Keeps}
 use Rattle.capture.specs.Replay.{Replayed, replay_open}

@@ -11,7 +11,7 @@ use lib.Dec.{leb, ltb, eqb}
 use borrow.Author.Tests.{leb-true, ltb-true, eqb-true}
 use Rattle.bits.proofs.Tests.{both_left, both_right, split}
 use Rattle.times.specs.declared.Nanos.{Nanos}
-use Rattle.trace.specs.Format.{if◌then◌else◌}
+use Rattle.trace.specs.Format.{when◌then◌else◌}
 use Rattle.trace.specs.Bench.{Device, Bench}
 use Rattle.trace.specs.Feed.{byte}
 use Rattle.trace.proofs.Tests.{if_cases}
@@ -64,11 +64,11 @@ fits_ended r e = split (eqb r.ended 0) (λ z. inl (eqb-true r.ended 0 z)) (λ z.
     which m q (inl z) = inl (q ∙ z)
     which m q (inr z) = inr (q ∙ z)
 
-    by : (t : Bool) → t ≡ false → (t || (eqb (length r.stamp) 4 && eqb r.ended (if back r.earlier (stamp_in r.stamp) then 32 else 33))) ≡ true
+    by : (t : Bool) → t ≡ false → (t || (eqb (length r.stamp) 4 && eqb r.ended (when back r.earlier (stamp_in r.stamp) then 32 else 33))) ≡ true
         → (r.ended ≡ 32) ⊎ (r.ended ≡ 33)
     by true z q = absurd (let z : ◌≡◌ {A = ℕ} 0 1 = cc in omega arith)
     by false z q =
-        which (if back r.earlier (stamp_in r.stamp) then 32 else 33) (eqb-true r.ended _ (both_right (eqb (length r.stamp) 4) _ q))
+        which (when back r.earlier (stamp_in r.stamp) then 32 else 33) (eqb-true r.ended _ (both_right (eqb (length r.stamp) 4) _ q))
         (if_cases (λ (m : ℕ). (m ≡ 32) ⊎ (m ≡ 33)) (back r.earlier (stamp_in r.stamp)) 32 33 (λ _. inl refl) (λ _. inr refl))
 
 pub matched_ended : (c : List ℕ) (r : Progress) → matches c r ≡ true → (r.ended ≡ 0) ⊎ ((r.ended ≡ 32) ⊎ (r.ended ≡ 33))

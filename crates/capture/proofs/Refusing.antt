@@ -4,7 +4,7 @@ use mathlib.Core.Path.{◌≡◌, refl, ap, ◌∙◌}
 use mathlib.Core.Bool.{true, false}
 use mathlib.Core.List.{List, [], ◌∷◌}
 use lib.ListN.{length}
-use Rattle.trace.specs.Format.{if◌then◌else◌}
+use Rattle.trace.specs.Format.{when◌then◌else◌}
 use Rattle.trace.specs.Outcome.{first}
 use Rattle.trace.specs.Lent.{Lent, Left, unchanged, unless, refusal}
 use Rattle.trace.specs.Calls.{Call, before, all_refused}
@@ -17,19 +17,19 @@ use Rattle.capture.specs.AsOneTrace.{Refusals}
 
 module _ {S H : Type 0} (L : Lent S H) where
   abbrev after_refusal : Held H → ℕ → ℕ
-  after_refusal h n = first n (first (progress_in h.replay).ended (if (L.view h.port).broken then 31 else 0))
+  after_refusal h n = first n (first (progress_in h.replay).ended (when (L.view h.port).broken then 31 else 0))
 
   pub refuses-first : (h : Held H) (n : ℕ) → refusal L h.port ≡ suc n → refusal_with L h ≡ suc n
   unfolding refusal_with
-  refuses-first h n e = ap (λ (m : ℕ). first m (if matching L h then 0 else 5)) e
+  refuses-first h n e = ap (λ (m : ℕ). first m (when matching L h then 0 else 5)) e
 
   pub refuses_unmatched : (h : Held H) → refusal L h.port ≡ 0 → matching L h ≡ false → refusal_with L h ≡ 5
   unfolding refusal_with
-  refuses_unmatched h e f = ap (λ (m : ℕ). first m (if matching L h then 0 else 5)) e ∙ if_false (matching L h) 0 5 f
+  refuses_unmatched h e f = ap (λ (m : ℕ). first m (when matching L h then 0 else 5)) e ∙ if_false (matching L h) 0 5 f
 
   pub refuses_not : (h : Held H) → refusal L h.port ≡ 0 → matching L h ≡ true → refusal_with L h ≡ 0
   unfolding refusal_with
-  refuses_not h e f = ap (λ (m : ℕ). first m (if matching L h then 0 else 5)) e ∙ if_true (matching L h) 0 5 f
+  refuses_not h e f = ap (λ (m : ℕ). first m (when matching L h then 0 else 5)) e ∙ if_true (matching L h) 0 5 f
 
   pub stops_refused : (h : Held H) (n : ℕ) → refusal_with L h ≡ suc n → stops_first L h ≡ suc n
   unfolding stops_first
@@ -37,20 +37,20 @@ module _ {S H : Type 0} (L : Lent S H) where
 
   pub stops_ended : (h : Held H) (n : ℕ) → refusal_with L h ≡ 0 → (progress_in h.replay).ended ≡ suc n → stops_first L h ≡ suc n
   unfolding stops_first
-  stops_ended h n e f = ap (after_refusal h) e ∙ ap (λ (m : ℕ). first m (if (L.view h.port).broken then 31 else 0)) f
+  stops_ended h n e f = ap (after_refusal h) e ∙ ap (λ (m : ℕ). first m (when (L.view h.port).broken then 31 else 0)) f
 
   pub stops_broken : (h : Held H) → refusal_with L h ≡ 0 → (progress_in h.replay).ended ≡ 0 → (bench_in L h).broken ≡ true → stops_first L h ≡ 31
   unfolding stops_first
   stops_broken h e f b =
       ap (after_refusal h) e
-      ∙ ap (λ (m : ℕ). first m (if (L.view h.port).broken then 31 else 0)) f
+      ∙ ap (λ (m : ℕ). first m (when (L.view h.port).broken then 31 else 0)) f
       ∙ if_true (L.view h.port).broken 31 0 b
 
   pub stops_not : (h : Held H) → refusal_with L h ≡ 0 → (progress_in h.replay).ended ≡ 0 → (bench_in L h).broken ≡ false → stops_first L h ≡ 0
   unfolding stops_first
   stops_not h e f b =
       ap (after_refusal h) e
-      ∙ ap (λ (m : ℕ). first m (if (L.view h.port).broken then 31 else 0)) f
+      ∙ ap (λ (m : ℕ). first m (when (L.view h.port).broken then 31 else 0)) f
       ∙ if_false (L.view h.port).broken 31 0 b
 
   module _ (h : Held H) (input answers : List ℕ) where

@@ -10,7 +10,7 @@ use lib.Seq.{append_snoc, take-add, take_all}
 use lib.Dec.{ltb, eqb}
 use borrow.Author.Tests.{lt-ltb, le-ltb, eq-eqb}
 use Rattle.times.specs.declared.Nanos.{Nanos}
-use Rattle.trace.specs.Format.{if◌then◌else◌, Bytes, known, body, size_of, whole}
+use Rattle.trace.specs.Format.{when◌then◌else◌, Bytes, known, body, size_of, whole}
 use Rattle.trace.specs.Bench.{Device, Bench, Benched, cut, cut_in, runs, plain}
 use Rattle.trace.specs.Feed.{kind_at, Step, took, stop, byte, feed_open}
 use Rattle.trace.specs.inner.Keeps.{RunKeeps}
@@ -171,12 +171,12 @@ module _ {S : Type 0} (D : Device S) (Good : S → Type 0) (keeps : RunKeeps D G
 
   end_open : (r : Progress) → r.ended ≡ 0 → end_fits r ≡ true
   unfolding end_fits
-  end_open r e = ap (λ (t : Bool). t || (eqb (length r.stamp) 4 && eqb r.ended (if back r.earlier (stamp_in r.stamp) then 32 else 33))) (eq-eqb r.ended 0 e)
+  end_open r e = ap (λ (t : Bool). t || (eqb (length r.stamp) 4 && eqb r.ended (when back r.earlier (stamp_in r.stamp) then 32 else 33))) (eq-eqb r.ended 0 e)
 
-  end_with : (r : Progress) (n : ℕ) → length r.stamp ≡ 4 → (if back r.earlier (stamp_in r.stamp) then 32 else 33) ≡ n → end_fits (ended_with n r) ≡ true
+  end_with : (r : Progress) (n : ℕ) → length r.stamp ≡ 4 → (when back r.earlier (stamp_in r.stamp) then 32 else 33) ≡ n → end_fits (ended_with n r) ≡ true
   unfolding end_fits
   end_with r n l e =
-      ap (λ (t : Bool). eqb n 0 || (t && eqb n (if back r.earlier (stamp_in r.stamp) then 32 else 33))) (eq-eqb (length r.stamp) 4 l)
+      ap (λ (t : Bool). eqb n 0 || (t && eqb n (when back r.earlier (stamp_in r.stamp) then 32 else 33))) (eq-eqb (length r.stamp) 4 l)
       ∙ ap (λ (t : Bool). eqb n 0 || t) (eq-eqb n _ (sym e))
       ∙ or_true (eqb n 0)
     where
@@ -274,7 +274,7 @@ module _ {S : Type 0} (D : Device S) (Good : S → Type 0) (keeps : RunKeeps D G
 
     -- the kind byte
     module _ (c : p.carried ≡ []) (l : length r.stamp ≡ 4) (e : role_of p.carried r.stamp ≡ of_kind) where
-      ended_at : (n : ℕ) → n ≤ 33 → (if back r.earlier (stamp_in r.stamp) then 32 else 33) ≡ n → At done (a ++ []) p (ended_with n r)
+      ended_at : (n : ℕ) → n ≤ 33 → (when back r.earlier (stamp_in r.stamp) then 32 else 33) ≡ n → At done (a ++ []) p (ended_with n r)
       ended_at n j q =
           record {
             plainly = v.plainly ∙ ap (left_as D p) (sym (append-nil a));

@@ -12,7 +12,7 @@ use lib.Dec.{eqb, ltb}
 use borrow.Author.Tests.{ne_eqb, lt-ltb, le-ltb}
 use Rattle.bits.proofs.Tests.{not_both}
 use Rattle.times.specs.declared.Nanos.{Nanos}
-use Rattle.trace.specs.Format.{if◌then◌else◌, body, begun}
+use Rattle.trace.specs.Format.{when◌then◌else◌, body, begun}
 use Rattle.trace.specs.Bench.{Device, Ran, Bench}
 use Rattle.trace.specs.Feed.{Fed, Step, took, stop, byte, feed_open}
 use Rattle.trace.specs.Feed as Feed
@@ -46,7 +46,7 @@ pub record AtRecord (r : Progress) (bs : List ℕ) : Type 0 where
 
 -- where m bytes of a record are taken, its kind byte among them if there is any
 abbrev pub took_kind : Progress → ℕ → Progress
-took_kind r m = if eqb m 0 then r else begins r
+took_kind r m = when eqb m 0 then r else begins r
 
 took_none : (r : Progress) (m : ℕ) → m ≡ 0 → took_kind r m ≡ r
 took_none r m e = ap (took_kind r) e
@@ -171,8 +171,8 @@ module _ {S : Type 0} (D : Device S) where
       l = omega (arith, length-append x.answer y.answers, e)
 
       by : (t : Bool)
-          → on s r room b bs (if t then halts 30 q one (x.answer ++ y.answers) else at_kind one (x.answer ++ y.answers) (byte D q (room - length (x.answer ++ y.answers)) b))
-          ≡ later 0 x.answer (on x.state (more_answered 1 r) (room - 8) b bs (if t then halts 30 q two y.answers else at_kind two y.answers (byte D q (room - 8 - length y.answers) b)))
+          → on s r room b bs (when t then halts 30 q one (x.answer ++ y.answers) else at_kind one (x.answer ++ y.answers) (byte D q (room - length (x.answer ++ y.answers)) b))
+          ≡ later 0 x.answer (on x.state (more_answered 1 r) (room - 8) b bs (when t then halts 30 q two y.answers else at_kind two y.answers (byte D q (room - 8 - length y.answers) b)))
       by true = ap (λ (z : Progress). still 30 q z (x.answer ++ y.answers)) (one_then y.count r)
       by false =
           ap (λ (n : ℕ). on s r room b bs (at_kind one (x.answer ++ y.answers) (byte D q n b))) l

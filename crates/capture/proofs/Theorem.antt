@@ -8,7 +8,7 @@ use lib.ListN.{length, take, drop, replicate, length-replicate, length-append, t
 use lib.Seq.{take-append_seam, drop-append_seam, take_at, drop_at}
 use lib.Dec.{eqb}
 use borrow.Author.Tests.{ne_eqb, eq-eqb, le-leb, eqb-true}
-use Rattle.trace.specs.Format.{if◌then◌else◌, Bytes}
+use Rattle.trace.specs.Format.{when◌then◌else◌, Bytes}
 use Rattle.trace.specs.Bench.{Device, Bench, Benched, plain}
 use Rattle.trace.specs.Outcome.{Outcome, first}
 use Rattle.trace.specs.Lent.{Lent, Left, unless, refusal}
@@ -47,17 +47,17 @@ end_high : (r : Progress) (n : ℕ) → end_fits r ≡ true → r.ended ≡ suc 
 unfolding end_fits
 end_high r n e q = go (eqb r.ended 0) (eqb (length r.stamp) 4) refl refl e
   where
-    high : 32 ≤ (if back r.earlier (stamp_in r.stamp) then 32 else 33)
+    high : 32 ≤ (when back r.earlier (stamp_in r.stamp) then 32 else 33)
     high = if_cases (λ (m : ℕ). 32 ≤ m) (back r.earlier (stamp_in r.stamp)) 32 33 (λ _. omega arith) (λ _. omega arith)
 
     go : (x y : Bool) → eqb r.ended 0 ≡ x → eqb (length r.stamp) 4 ≡ y
-        → (x || (y && eqb r.ended (if back r.earlier (stamp_in r.stamp) then 32 else 33))) ≡ true → 32 ≤ suc n
+        → (x || (y && eqb r.ended (when back r.earlier (stamp_in r.stamp) then 32 else 33))) ≡ true → 32 ≤ suc n
     go true y ex ey h = absurd (let z = eqb-true r.ended 0 ex in omega arith)
     go false false ex ey h = absurd (false≢true h)
     go false true ex ey h = let z = eqb-true r.ended _ h in omega (arith, z, high)
 
 -- what a call gives, by what it leaves
-ends_by : (n : ℕ) (broken : Bool) (ended : ℕ) → Numbered n broken ended → ended ≡ (if eqb n 32 then 32 else (if eqb n 33 then 33 else 0))
+ends_by : (n : ℕ) (broken : Bool) (ended : ℕ) → Numbered n broken ended → ended ≡ (when eqb n 32 then 32 else (when eqb n 33 then 33 else 0))
 ends_by _ _ _ gives_0 = refl
 ends_by _ _ _ gives_30 = refl
 ends_by _ _ _ gives_31 = refl
@@ -78,7 +78,7 @@ none_low _ _ _ gives_31 m h j = ne_eqb 31 m (λ e. omega arith)
 none_low _ _ _ gives_32 m h j = ne_eqb 32 m (λ e. omega arith)
 none_low _ _ _ gives_33 m h j = ne_eqb 33 m (λ e. omega arith)
 
-first_end : (e : ℕ) (t u : Bool) (rest : ℕ) → first (first e (if t then 32 else (if u then 33 else 0))) rest ≡ first e (if t then 32 else (if u then 33 else rest))
+first_end : (e : ℕ) (t u : Bool) (rest : ℕ) → first (first e (when t then 32 else (when u then 33 else 0))) rest ≡ first e (when t then 32 else (when u then 33 else rest))
 first_end zero true u rest = refl
 first_end zero false true rest = refl
 first_end zero false false rest = refl
@@ -125,7 +125,7 @@ module _ {S H : Type 0} (L : Lent S H) (h₀ : Held H) (Good : S → Type 0) (K 
     same : (record { bench = blank_bench (bench_in L x.held); progress = progress_in x.held.replay; number = x.number; consumed = x.consumed; answers = replicate x.written 0 })
         ≡ foreseen done (progress_in h.replay).answered (progress_in h.replay).ended (bench_in L h).broken c
     breaks : (bench_in L x.held).broken ≡ ((bench_in L h).broken || eqb x.number 31)
-    ends : (progress_in x.held.replay).ended ≡ first (progress_in h.replay).ended (if eqb x.number 32 then 32 else (if eqb x.number 33 then 33 else 0))
+    ends : (progress_in x.held.replay).ended ≡ first (progress_in h.replay).ended (when eqb x.number 32 then 32 else (when eqb x.number 33 then 33 else 0))
     low : (n : ℕ) → 0 < n → n < 30 → eqb x.number n ≡ false
     untouched : drop x.written x.answers ≡ drop x.written c.answers
     long : length (take x.written x.answers) ≡ x.written
@@ -141,17 +141,17 @@ module _ {S H : Type 0} (L : Lent S H) (h₀ : Held H) (Good : S → Type 0) (K 
 
   replay_stopped : (p : Bench S) (r : Progress) (room n : ℕ) (input : List ℕ) → r.ended ≡ suc n → replay D p r room input ≡ still (suc n) p r []
   unfolding replay
-  replay_stopped p r room n input e = ap (λ (m : ℕ). unless m (λ n. still n p r []) (if p.broken then still 31 p r [] else replay_open D p r room input)) e
+  replay_stopped p r room n input e = ap (λ (m : ℕ). unless m (λ n. still n p r []) (when p.broken then still 31 p r [] else replay_open D p r room input)) e
 
   replay_broken : (p : Bench S) (r : Progress) (room : ℕ) (input : List ℕ) → r.ended ≡ 0 → p.broken ≡ true → replay D p r room input ≡ still 31 p r []
   unfolding replay
   replay_broken p r room input e b =
-      ap (λ (m : ℕ). unless m (λ n. still n p r []) (if p.broken then still 31 p r [] else replay_open D p r room input)) e ∙ if_true p.broken _ _ b
+      ap (λ (m : ℕ). unless m (λ n. still n p r []) (when p.broken then still 31 p r [] else replay_open D p r room input)) e ∙ if_true p.broken _ _ b
 
   replay_open_lem : (p : Bench S) (r : Progress) (room : ℕ) (input : List ℕ) → r.ended ≡ 0 → p.broken ≡ false → replay D p r room input ≡ replay_open D p r room input
   unfolding replay
   replay_open_lem p r room input e b =
-      ap (λ (m : ℕ). unless m (λ n. still n p r []) (if p.broken then still 31 p r [] else replay_open D p r room input)) e ∙ if_false p.broken _ _ b
+      ap (λ (m : ℕ). unless m (λ n. still n p r []) (when p.broken then still 31 p r [] else replay_open D p r room input)) e ∙ if_false p.broken _ _ b
 
   step : (done a : List ℕ) (h : Held H) (c : Call) → On done a h → Bytes c.input → Step done a h c (replays L h c.input c.answers)
   step done a h c o i = by_ended h.replay.ended refl
@@ -167,7 +167,7 @@ module _ {S H : Type 0} (L : Lent S H) (h₀ : Held H) (Good : S → Type 0) (K 
       stopped : (n : ℕ) → stops_first L h ≡ suc n → replay D (bench_in L h) (progress_in h.replay) (length c.answers) c.input ≡ still (suc n) (bench_in L h) (progress_in h.replay) []
           → 30 ≤ suc n
           → (bench_in L h).broken ≡ ((bench_in L h).broken || eqb (suc n) 31)
-          → (progress_in h.replay).ended ≡ first (progress_in h.replay).ended (if eqb (suc n) 32 then 32 else (if eqb (suc n) 33 then 33 else 0))
+          → (progress_in h.replay).ended ≡ first (progress_in h.replay).ended (when eqb (suc n) 32 then 32 else (when eqb (suc n) 33 then 33 else 0))
           → ((progress_in h.replay).ended ≡ 0 → (bench_in L h).broken ≡ false → ⊥)
           → Step done a h c (replays L h c.input c.answers)
       stopped n st e big br en shut =
@@ -201,7 +201,7 @@ module _ {S H : Type 0} (L : Lent S H) (h₀ : Held H) (Good : S → Type 0) (K 
             };
             same = rw (kp, kr) (blank_same g (replay_open_lem (bench_in L h) (progress_in h.replay) (length c.answers) c.input z u));
             breaks = rw kp (breaks_by g.number g.bench.broken g.progress.ended w.number ∙ sym (ap (λ (t : Bool). t || eqb g.number 31) u));
-            ends = ends_by g.number g.bench.broken g.progress.ended w.number ∙ sym (ap (λ (m : ℕ). first m (if eqb g.number 32 then 32 else (if eqb g.number 33 then 33 else 0))) z);
+            ends = ends_by g.number g.bench.broken g.progress.ended w.number ∙ sym (ap (λ (m : ℕ). first m (when eqb g.number 32 then 32 else (when eqb g.number 33 then 33 else 0))) z);
             low = none_low g.number g.bench.broken g.progress.ended w.number;
             untouched = drop-append_seam g.answers (drop (length g.answers) c.answers);
             long = rw tk;
@@ -223,7 +223,7 @@ module _ {S H : Type 0} (L : Lent S H) (h₀ : Held H) (Good : S → Type 0) (K 
           let big = end_high (progress_in h.replay) n o.at.end z in
           stopped n (stops_ended L h n (on_sound o) z) (replay_stopped (bench_in L h) (progress_in h.replay) (length c.answers) n c.input z) (omega arith)
           (sym (or-false (bench_in L h).broken) ∙ sym (ap (λ (t : Bool). (bench_in L h).broken || t) (ne_eqb (suc n) 31 (λ q. omega arith))))
-          (z ∙ sym (ap (λ (m : ℕ). first m (if eqb (suc n) 32 then 32 else (if eqb (suc n) 33 then 33 else 0))) z))
+          (z ∙ sym (ap (λ (m : ℕ). first m (when eqb (suc n) 32 then 32 else (when eqb (suc n) 33 then 33 else 0))) z))
           (λ v _. omega arith)
 
   -- ---- cutting
@@ -294,7 +294,7 @@ module _ {S H : Type 0} (L : Lent S H) (h₀ : Held H) (Good : S → Type 0) (K 
   unfolding stops_first
   not_stopped h e = go (refusal_with L h) (progress_in h.replay).ended (bench_in L h).broken refl refl e
     where
-      go : (n m : ℕ) (t : Bool) → (progress_in h.replay).ended ≡ m → (bench_in L h).broken ≡ t → first n (first m (if t then 31 else 0)) ≡ 0 → ((progress_in h.replay).ended ≡ 0) × ((bench_in L h).broken ≡ false)
+      go : (n m : ℕ) (t : Bool) → (progress_in h.replay).ended ≡ m → (bench_in L h).broken ≡ t → first n (first m (when t then 31 else 0)) ≡ 0 → ((progress_in h.replay).ended ≡ 0) × ((bench_in L h).broken ≡ false)
       go (suc n) m t em et q = absurd (omega arith)
       go zero (suc m) t em et q = absurd (omega arith)
       go zero zero true em et q = absurd (omega arith)

@@ -6,12 +6,12 @@ use mathlib.Core.List.{List, [], ◌∷◌, ◌++◌, append_assoc, map}
 use native.Mathlib.Omega.{arith}
 use native.Mathlib.Nat.{sub-zero, zero-add}
 use lib.ListN.{length, drop, length-append}
-use lib.Seq.{take_at, drop_at, drop-drop, drop-length}
+use lib.Seq.{drop_at, drop-drop, drop-length}
 use lib.Dec.{eqb}
 use Rattle.times.specs.declared.Nanos.{Nanos}
 use Rattle.ticks.specs.declared.Stamp.{Stamp}
 use Rattle.bits.proofs.Bytes.{bytes_append}
-use Rattle.trace.specs.Format.{Bytes, body, next, complete}
+use Rattle.trace.specs.Format.{Bytes, next, complete}
 use Rattle.trace.specs.Bench.{Device, Ran, runs}
 use Rattle.trace.specs.Feed.{kind_at, feed_open}
 use Rattle.trace.specs.Feed as Feed

@@ -4,7 +4,7 @@ use Rattle.bits.specs.Bytes.{byte_at}
 use Rattle.times.specs.declared.Nanos.{Nanos}
 use Rattle.ticks.specs.declared.Stamp.{Stamp}
 use Rattle.ticks.specs.Ticks.{difference, went_back, in_nanos}
-use Rattle.trace.specs.Format.{if◌then◌else◌}
+use Rattle.trace.specs.Format.{when◌then◌else◌}
 
 -- ---- Stamps
 -- 4 bytes, low byte first
@@ -36,7 +36,7 @@ rest t = record { 0 = t.0 - longest_advance.0 }
 
 -- "a difference of 0 gives no advance. Above 4,294,967,295 ns, advances of that size come first, then the rest": fewer than 2^31 ticks are fewer than twice that
 unfoldable pub advances : Nanos → List Nanos
-advances t = if eqb t.0 0 then [] else (if leb t.0 longest_advance.0 then t ∷ [] else longest_advance ∷ rest t ∷ [])
+advances t = when eqb t.0 0 then [] else (when leb t.0 longest_advance.0 then t ∷ [] else longest_advance ∷ rest t ∷ [])
 
 -- the advances from the stamp before to this one: the first stamp has none
 unfoldable pub between : Earlier → Stamp → List Nanos
@@ -45,7 +45,7 @@ between (was e) stamp = advances (in_nanos (difference e stamp))
 
 -- THE ADVANCES DUE after the stamp bytes that are there: none until all 4 are, and none where the recorder went back
 unfoldable pub due : Earlier → (stamp : List ℕ) → List Nanos
-due e stamp = if eqb (length stamp) 4 then (if back e (stamp_in stamp) then [] else between e (stamp_in stamp)) else []
+due e stamp = when eqb (length stamp) 4 then (when back e (stamp_in stamp) then [] else between e (stamp_in stamp)) else []
 
 -- ---- As records
 -- a record 01

@@ -1,6 +1,6 @@
 -- A list of replay calls, each of which gets what the last one left.
 use Rattle.std.specs.Prelude.{ℕ, refl, Bool, false, List, [], ◌∷◌, ◌++◌, length, take, replicate, eqb}
-use Rattle.trace.specs.Format.{if◌then◌else◌}
+use Rattle.trace.specs.Format.{when◌then◌else◌}
 use Rattle.trace.specs.Bench.{Device, Benched, plain}
 use Rattle.trace.specs.Outcome.{Outcome}
 use Rattle.trace.specs.Lent.{Lent}
@@ -51,4 +51,4 @@ expected cs = expected_from [] 0 0 false cs
 -- 0, or the number, 32 or 33, that ended the replay
 abbrev pub ended_by : List Outcome → ℕ
 ended_by [] = 0
-ended_by (o ∷ os) = if eqb o.number 32 then 32 else (if eqb o.number 33 then 33 else ended_by os)
+ended_by (o ∷ os) = when eqb o.number 32 then 32 else (when eqb o.number 33 then 33 else ended_by os)

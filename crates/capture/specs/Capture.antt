@@ -1,6 +1,6 @@
 -- A capture: entries one after the other, each a stamp of 4 bytes and then one record other than 01. And the trace that it stands for.
 use Rattle.std.specs.Prelude.{ℕ, ◌≡◌, false, List, [], ◌∷◌, ◌++◌, length, take, ltb, eqb}
-use Rattle.trace.specs.Format.{if◌then◌else◌, body, next, complete}
+use Rattle.trace.specs.Format.{when◌then◌else◌, body, next, complete}
 use Rattle.trace.specs.Feed.{kind_at}
 use Rattle.capture.specs.Advances.{Earlier, none, was, stamp_in, due, advance_bytes}
 
@@ -48,12 +48,12 @@ pub data Role : Type 0 where
   of_record : Role
 
 abbrev pub role_of : (carried stamp : List ℕ) → Role
-role_of [] stamp = if ltb (length stamp) 4 then of_stamp else of_kind
+role_of [] stamp = when ltb (length stamp) 4 then of_stamp else of_kind
 role_of (kind ∷ rest) stamp = of_record
 
 -- a record's bytes are carried until it is whole
 abbrev pub carried_after : List ℕ → ℕ → List ℕ
-carried_after carried b = if ltb (length carried) (body (kind_at carried b)) then carried ++ b ∷ [] else []
+carried_after carried b = when ltb (length carried) (body (kind_at carried b)) then carried ++ b ∷ [] else []
 
 abbrev pub place_at : Role → Place → ℕ → Place
 place_at of_stamp p b = record { earlier = p.earlier; stamp = p.stamp ++ b ∷ []; carried = p.carried }

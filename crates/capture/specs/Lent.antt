@@ -1,7 +1,7 @@
 -- A call of replay on what the caller lends and hands in: refusals, and every lent byte afterwards.
 use Rattle.std.specs.Prelude.{ℕ, ◌≡◌, Bool, true, ◌&&◌, List, ◌++◌, length, take, drop, leb}
 use Rattle.ticks.specs.declared.Stamp.{Stamp}
-use Rattle.trace.specs.Format.{if◌then◌else◌, pad}
+use Rattle.trace.specs.Format.{when◌then◌else◌, pad}
 use Rattle.trace.specs.Outcome.{first}
 use Rattle.trace.specs.Bench.{Bench}
 use Rattle.trace.specs.Lent.{Lent, Left, unchanged, unless, refusal, Start}
@@ -15,7 +15,7 @@ use Rattle.capture.specs.Replay.{Progress, Replayed, fresh, matches, replay_open
 abbrev pub progress_in : Replay → Progress
 progress_in m =
     record {
-      earlier = if m.begun then was m.earlier else none;
+      earlier = when m.begun then was m.earlier else none;
       stamp = take m.stamp_len m.stamp;
       answered = m.answered;
       ended = m.ended;
@@ -60,11 +60,11 @@ module _ {S H : Type 0} (L : Lent S H) where
 
   -- 0, or the first of 1 to 5 that applies; 5 also where the state of the replay doesn't match
   unfoldable pub refusal_with : Held H → ℕ
-  refusal_with h = first (refusal L h.port) (if matching h then 0 else 5)
+  refusal_with h = first (refusal L h.port) (when matching h then 0 else 5)
 
   -- 0, or the number given before a byte is looked at: an ended replay's right after 5, then a broken port's 31
   unfoldable pub stops_first : Held H → ℕ
-  stops_first h = first (refusal_with h) (first h.replay.ended (if (bench_in h).broken then 31 else 0))
+  stops_first h = first (refusal_with h) (first h.replay.ended (when (bench_in h).broken then 31 else 0))
 
   abbrev pub leaves : Replayed S → List ℕ → Left (Held H)
   leaves f answers =

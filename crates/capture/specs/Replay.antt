@@ -2,7 +2,7 @@
 use Rattle.std.specs.Prelude.{ℕ, suc, ◌+◌, ◌-◌, Bool, true, false, not, ◌&&◌, ◌||◌, List, [], ◌∷◌, ◌++◌, length, drop, leb, ltb, eqb}
 use Rattle.times.specs.declared.Nanos.{Nanos}
 use Rattle.ticks.specs.declared.Stamp.{Stamp}
-use Rattle.trace.specs.Format.{if◌then◌else◌}
+use Rattle.trace.specs.Format.{when◌then◌else◌}
 use Rattle.trace.specs.Bench.{Device, Ran, Bench}
 use Rattle.trace.specs.Feed.{Step, took, stop, byte}
 use Rattle.trace.specs.Lent.{unless}
@@ -26,7 +26,7 @@ after_entry stamp = record { earlier = was stamp; stamp = []; answered = 0; ende
 
 -- ended is 0; or 32, where the recorder went back, or 33, where it did not, with all 4 bytes of the stamp
 unfoldable pub end_fits : Progress → Bool
-end_fits r = eqb r.ended 0 || (eqb (length r.stamp) 4 && eqb r.ended (if back r.earlier (stamp_in r.stamp) then 32 else 33))
+end_fits r = eqb r.ended 0 || (eqb (length r.stamp) 4 && eqb r.ended (when back r.earlier (stamp_in r.stamp) then 32 else 33))
 
 -- IT MATCHES the port's carried bytes and the advances due (else 5). Between records: at most 4 stamp bytes, and no more answered than are due. In a
 -- record: some record was begun, it is no 01, nothing of a stamp is there, none is answered, and it is not ended
@@ -100,7 +100,7 @@ module _ {S : Type 0} (D : Device S) where
   unfoldable pub advancing : S → (room : ℕ) → List Nanos → Advanced S
   advancing s room [] = stays s false
   advancing s room (t ∷ more) =
-      if ltb room 8
+      when ltb room 8
       then stays s true
       else (let x = D.run s (advance t) in one_more x (advancing x.state (room - 8) more))
 
@@ -109,13 +109,13 @@ module _ {S : Type 0} (D : Device S) where
   after_advances p r room b x =
       let p' : Bench S = record { state = x.state; carried = p.carried; broken = p.broken } in
       let r' = more_answered x.count r in
-      if x.stuck then halts 30 p' r' x.answers else at_kind r' x.answers (byte D p' (room - length x.answers) b)
+      when x.stuck then halts 30 p' r' x.answers else at_kind r' x.answers (byte D p' (room - length x.answers) b)
 
   -- THE KIND BYTE: 32, then 33, then the advances that are due and not yet answered, then the byte
   unfoldable pub kind_byte : Bench S → Progress → (room b : ℕ) → Does S
   kind_byte p r room b =
-      if back r.earlier (stamp_in r.stamp) then halts 32 p (ended_with 32 r) []
-      else (if eqb b 1 then halts 33 p (ended_with 33 r) []
+      when back r.earlier (stamp_in r.stamp) then halts 32 p (ended_with 32 r) []
+      else (when eqb b 1 then halts 33 p (ended_with 33 r) []
       else after_advances p r room b (advancing p.state room (drop r.answered (due r.earlier r.stamp))))
 
   abbrev pub byte_as : Role → Bench S → Progress → (room b : ℕ) → Does S
@@ -132,4 +132,4 @@ module _ {S : Type 0} (D : Device S) where
   -- an ended replay gives its number again, then a broken port 31, and nothing is consumed
   unfoldable pub replay : Bench S → Progress → (room : ℕ) → List ℕ → Replayed S
   replay p r room input =
-      unless r.ended (λ n. still n p r []) (if p.broken then still 31 p r [] else replay_open p r room input)
+      unless r.ended (λ n. still n p r []) (when p.broken then still 31 p r [] else replay_open p r room input)

@@ -7,7 +7,7 @@ use Rattle.ticks.specs.Ticks.{difference}
 use Rattle.capture.specs.Advances.{Earlier, none, was}
 use Rattle.records.specs.declared.Record.{Record}
 use Rattle.records.specs.declared.Record.TheVariants.{Advance}
-use Rattle.text_line.specs.Text.{named, text_if, column_of}
+use Rattle.text_line.specs.Text.{named, column_of}
 use Rattle.describe_records.specs.Records.{record_text}
 use Rattle.describe_trace.specs.Answers.{answer_text}
 use Rattle.describe_trace.specs.Traces.{number_text}

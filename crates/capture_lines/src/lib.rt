@@ -1,8 +1,10 @@
 // The lines of a capture, as definitions in specs/; and the type of what ends one early.
+#![tactic(auto)]
+
 use ticks::Stamp;
 
 // What ends a capture early.
-#[derive(Drop)]
+#[derive(Clone, Copy)]
 pub enum CaptureFault {
     Nothing,
     // 32: the earlier stamp, and the one that goes back from it.

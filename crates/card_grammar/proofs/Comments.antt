@@ -1,18 +1,17 @@
 -- A comment is not read.
-use mathlib.Core.Path.{◌≡◌, refl, sym, ap, ap₂, ◌∙◌}
+use mathlib.Core.Path.{◌≡◌, refl, ap, ap₂, ◌∙◌}
 use mathlib.Core.Bool.{Bool, true, false, cond}
 use mathlib.Core.List.{List, [], ◌∷◌, ◌++◌}
-use Prim.Native.Nat.{ℕ, zero, suc, ◌+◌, ◌-◌, ◌≤◌, ◌<◌}
+use Prim.Native.Nat.{ℕ, zero, suc, ◌+◌, ◌-◌, ◌≤◌}
 use native.Mathlib.Omega.{arith}
 use lib.Dec.{eqb, ltb}
 use lib.ListN.{length, take, drop, length-drop}
 use lib.Seq.{drop-append-le, take-append-le}
-use Rattle.card_grammar.specs.declared.Reason.{Reason}
 use Rattle.card_grammar.specs.declared.Reason.TheVariants.{Fine, UnknownWord, BadNumber, LineTooShort, LineTooLong}
 use Rattle.text_fields.specs.Text.{number_at, is_blank, in_field, run, run_end, field_start, field_end, field, no_field, same, no_number, number_of}
 use Rattle.card_grammar.specs.Names.{name_slots, name_queue, name_bus, name_port, name_slot, name_word, name_reset, name_dl_up, name_flr, name_d3hot, name_frs, name_yes, name_no}
-use Rattle.card_grammar.specs.Grammar.{unfit, wants_word, wants_number, wants_end, why_not_number, enter_number, slot_at, hex_at, code_at, word_allowed, why_not_word, enter_word, is_yes, wants_yes_no, wants_code, why_not_codes, why_not_frs, why_not_slot, put_code, put_frs, enter_slot, is_fact, enter_line}
-use Rattle.text_fields.proofs.Runs.{run_most, run_end_most, start_most, end_most}
+use Rattle.card_grammar.specs.Grammar.{unfit, wants_word, wants_number, wants_end, why_not_number, enter_number, word_allowed, why_not_word, enter_word, is_yes, wants_yes_no, wants_code, why_not_codes, why_not_frs, why_not_slot, put_code, put_frs, enter_slot, is_fact, enter_line}
+use Rattle.text_fields.proofs.Runs.{start_most, end_most}
 
 -- a run ends at the latest where a byte stands that doesn't pass
 run_append : (p : ℕ → Bool) (s t : List ℕ) (b : ℕ) → p b ≡ false → run p (s ++ b ∷ t) ≡ run p s

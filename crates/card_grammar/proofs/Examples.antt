@@ -1,6 +1,6 @@
 -- Cards by their text, as antt computes them.
 use mathlib.Core.Path.{◌≡◌, refl}
-use mathlib.Core.Bool.{Bool, true, false, cond}
+use mathlib.Core.Bool.{Bool, true, false}
 use mathlib.Core.List.{List, [], ◌∷◌}
 use Prim.Native.Nat.{ℕ}
 use Prim.Native.String.{String}
@@ -11,9 +11,9 @@ use Rattle.card_grammar.specs.declared.Reason.{Reason}
 use Rattle.card_grammar.specs.declared.Reason.TheVariants.{Fine, UnknownWord, BadNumber, LineTooShort, LineTooLong, OutOfRange, SlotsFirst, NamedTwice, Missing, NoRoom}
 use Rattle.card_grammar.specs.declared.CardRead.{CardRead}
 use Rattle.card_grammar.specs.Grammar.{first_of, unfit, wants_word, wants_number, wants_end, in_range, not_twice, slot_allowed, put, why_not_number, enter_number, offset_allowed, word_allowed, why_not_word, enter_word, wants_yes_no, wants_code, why_not_codes, why_not_frs, why_not_slot, put_code, put_frs, enter_slot, enter_line, read_lines}
-use Rattle.card_grammar.specs.Card.{slots_from, setup_from, missing, room, words_from, stored_words, Outcome, outcome_from, card_of}
+use Rattle.card_grammar.specs.Card.{slots_from, setup_from, missing, room, words_from, stored_words, outcome_from, card_of}
 use Rattle.bits.specs.Text.{chars}
-use Rattle.text_fields.specs.Text.{in_line, lines_of, is_blank, in_field, run, run_end, field_start, field, no_field, same, digit_of, value_from, width_allowed, number_of}
+use Rattle.text_fields.specs.Text.{in_line, lines_of, is_blank, in_field, run, field_start, no_field, same, digit_of, value_from, width_allowed, number_of}
 
 -- ---- whole texts, with 2,048 words lent
 

@@ -2,11 +2,11 @@
 use mathlib.Core.Path.{◌≡◌, refl, sym, ap, ◌∙◌}
 use mathlib.Core.Bool.{Bool, true, false, ◌&&◌, ◌||◌, cond, false≢true}
 use mathlib.Core.List.{List, [], ◌∷◌}
-use Prim.Native.Nat.{ℕ, suc, ◌+◌, ◌*◌, ◌/◌, ◌%◌, ◌≤◌, ◌<◌}
+use Prim.Native.Nat.{ℕ, suc, ◌%◌, ◌≤◌, ◌<◌}
 use native.Mathlib.Nat.{mod-eq_of_lt, lt_of_le_of_lt}
 use native.Mathlib.Omega.{arith}
 use lib.Dec.{eqb, leb, ltb}
-use lib.ListN.{length, get_or, set, replicate, get_or-replicate, length-replicate, get_or-eq_default}
+use lib.ListN.{length, get_or, set, get_or-replicate, length-replicate, get_or-eq_default}
 use lib.Seq.{set_out, get_or-set_same, get_or-set_other}
 use borrow.Author.Tests.{leb-true, ltb-true, ltb-false, eqb-true, eqb-false, lt-ltb, le-ltb, le-leb}
 use Rattle.bits.specs.Bits.{one}
@@ -15,7 +15,7 @@ use Rattle.bits.proofs.Tests.{both_left, both_right, not_both, or_last}
 use Rattle.card_grammar.specs.declared.Reason.{Reason}
 use Rattle.card_grammar.specs.declared.Reason.TheVariants.{Fine, BadNumber, LineTooShort, OutOfRange, SlotsFirst, Missing}
 use Rattle.text_fields.specs.Text.{number_at, field, no_field, no_number}
-use Rattle.card_grammar.specs.Grammar.{not_named, default_place, slots_place, queue_place, bus_place, port_place, entry_place, places, named, is_fine, first_of, unfit, wants_word, wants_number, in_range, slot_allowed, Entered, entered, put, why_not_number, enter_number, slot_at, hex_at, code_at, offset_allowed, word_allowed, why_not_word, enter_word, is_yes, wants_code, why_not_codes, why_not_frs, why_not_slot, put_code, put_frs, enter_slot, is_fact, enter_line, Told, read_lines}
+use Rattle.card_grammar.specs.Grammar.{not_named, default_place, slots_place, queue_place, bus_place, port_place, entry_place, places, named, is_fine, first_of, unfit, wants_word, wants_number, in_range, slot_allowed, Entered, put, why_not_number, enter_number, slot_at, hex_at, code_at, offset_allowed, word_allowed, why_not_word, enter_word, is_yes, wants_code, why_not_codes, why_not_slot, put_code, put_frs, enter_slot, is_fact, enter_line, Told, read_lines}
 use Rattle.card_grammar.specs.Names.{name_slots, name_queue, name_bus, name_port, name_slot, name_word, name_reset, name_dl_up, name_flr, name_d3hot}
 use Rattle.card_grammar.specs.Card.{blank_table, named_below}
 use Rattle.text_fields.proofs.Numbers.{code_small}

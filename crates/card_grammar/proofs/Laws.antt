@@ -1,17 +1,15 @@
 -- What holds of every reading.
-use mathlib.Core.Path.{◌≡◌, refl, sym, ap, ◌∙◌}
+use mathlib.Core.Path.{◌≡◌, refl, ap}
 use mathlib.Core.Bool.{Bool, true, false, cond}
-use mathlib.Core.List.{List, [], ◌∷◌, ◌++◌}
-use Prim.Native.Nat.{ℕ, ◌%◌, ◌≤◌, ◌<◌}
-use native.Mathlib.Nat.{mod-lt, zero-lt-suc}
+use mathlib.Core.List.{List, ◌∷◌, ◌++◌}
+use Prim.Native.Nat.{ℕ, ◌≤◌, ◌<◌}
 use native.Mathlib.Omega.{arith}
 use lib.Dec.{eqb}
 use lib.ListN.{length}
 use borrow.Author.Tests.{eqb-true}
-use Rattle.card_grammar.specs.declared.Reason.{Reason}
 use Rattle.card_grammar.specs.declared.Reason.TheVariants.{NoRoom}
 use Rattle.text_fields.specs.Text.{lines_of}
-use Rattle.card_grammar.specs.Grammar.{not_named, default_place, slots_place, queue_place, bus_place, port_place, entry_place, named, is_fine, first_of, enter_line, Told, read_lines}
+use Rattle.card_grammar.specs.Grammar.{not_named, default_place, slots_place, queue_place, bus_place, port_place, entry_place, named, is_fine, enter_line, read_lines}
 use Rattle.card_grammar.specs.Card.{blank_table, named_below, setup_from, must_be_named, missing, room, words_from, stored_words, outcome_from, card_of}
 use Rattle.card_grammar.proofs.Comments.{comment_line}
 use Rattle.card_grammar.proofs.Kept.{fine_both, fine_test, fine_named, kept_lines, kept-blank, within, or_zero, whole_word, whole_code}

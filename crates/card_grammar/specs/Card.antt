@@ -1,5 +1,5 @@
 -- The card that a text is, or why it is none.
-use Rattle.std.specs.Prelude.{ℕ, zero, suc, ◌+◌, ◌*◌, ◌%◌, Bool, cond, List, [], ◌∷◌, ◌++◌, eqb, length, get_or, replicate}
+use Rattle.std.specs.Prelude.{ℕ, zero, suc, ◌%◌, cond, List, [], ◌∷◌, ◌++◌, eqb, length, replicate}
 use Rattle.bits.specs.Lists.{listed}
 use Rattle.times.specs.declared.Code.{Code}
 use Rattle.readiness.specs.declared.Slot.{Slot}

@@ -16,7 +16,7 @@
 -- N is decimal, OFFSET and VALUE are hex, each of 1 to 8 digits; HH, HHH and HHHH are hex of just so many digits. Hex digits may
 -- be small or capital letters; the words are small letters. slots, queue, bus and port stand once each, a slot and a word of a
 -- slot at most once; slots stands before every slot and word, and else the order is free.
-use Rattle.std.specs.Prelude.{ℕ, zero, suc, ◌+◌, ◌*◌, ◌/◌, ◌%◌, Bool, true, false, ◌&&◌, cond, List, [], ◌∷◌, eqb, leb, ltb, get_or, set}
+use Rattle.std.specs.Prelude.{ℕ, suc, ◌+◌, ◌*◌, ◌/◌, ◌%◌, Bool, true, false, ◌&&◌, cond, List, [], ◌∷◌, eqb, leb, ltb, get_or, set}
 use Rattle.bits.specs.Bits.{one}
 use Rattle.text_fields.specs.Text.{field, no_field, same, no_number, number_at}
 use Rattle.card_grammar.specs.Names.{name_slots, name_queue, name_bus, name_port, name_slot, name_word, name_reset, name_dl_up, name_flr, name_d3hot, name_frs, name_yes, name_no}

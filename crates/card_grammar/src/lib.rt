@@ -1,9 +1,10 @@
 // A card's text: the types of a reading, and in specs/ the grammar: which bytes are a card, and which card.
+#![tactic(auto)]
 
 use readiness::Setup;
 
 // Why a text is refused; Fine where it isn't.
-#[derive(Drop)]
+#[derive(Clone, Copy)]
 pub enum Reason {
     Fine,
     // A word other than those that the grammar has there.
@@ -28,7 +29,7 @@ pub enum Reason {
 
 // A reading: whether the text is a card; how many lines were read, the last of which is refused where one is; the reason; and
 // the card, as far as it was read.
-#[derive(Drop)]
+#[derive(Clone, Copy)]
 pub struct CardRead {
     pub ok: bool,
     pub line: usize,

@@ -2,7 +2,7 @@
 use mathlib.Core.Path.{◌≡◌, refl, sym, ap, ap₂, ◌∙◌}
 use mathlib.Core.Bool.{Bool, true, false, cond}
 use mathlib.Core.List.{List, [], ◌∷◌}
-use Prim.Native.Nat.{ℕ, zero, suc, ◌+◌, ◌-◌, ◌≤◌, ◌<◌}
+use Prim.Native.Nat.{ℕ, suc, ◌+◌, ◌-◌, ◌≤◌, ◌<◌}
 use native.Mathlib.Numerals.{add-one}
 use native.Mathlib.Omega.{arith}
 use lib.Dec.{ltb}
@@ -13,7 +13,6 @@ use Rattle.card_grammar.specs.declared.Reason.{Reason}
 use Rattle.card_grammar.specs.declared.Reason.TheVariants.{Fine}
 use Rattle.text_fields.specs.Text.{part, in_line, onto, lines_of, run, run_end}
 use Rattle.card_grammar.specs.Grammar.{is_fine, Entered, entered, enter_line, Told, told, read_lines}
-use Rattle.text_fields.proofs.Runs.{run_end_most}
 
 -- ---- the first line, and the lines after it
 

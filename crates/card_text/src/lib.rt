@@ -1,4 +1,6 @@
 // The reader of a card's text: which bytes are a card, and which card; the grammar is in card_grammar.
+#![tactic(auto)]
+
 mod reasons; // why a line is refused
 mod table; // what was named
 mod facts; // facts with a number

@@ -10,7 +10,7 @@ use state_image::state::{is_yes, is_yes_or_no};
 pub const FRONT: usize = 427;
 
 // How much is lent: slot statuses, live words, default words and queue cells.
-#[derive(Drop)]
+#[derive(Clone, Copy)]
 pub struct Lengths {
     pub statuses: usize,
     pub live: usize,

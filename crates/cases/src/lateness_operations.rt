@@ -57,7 +57,7 @@ fn put_lateness(bytes: &mut [u8], i: usize, d: Lateness) {
     }
 }
 
-fn write_lateness(slots: usize, moments: Moments, seen: Moments) {
+fn write_lateness(rt: &HostRuntime, slots: usize, moments: Moments, seen: Moments) {
     let mut bytes = [0u8; MOMENTS_IMAGE];
     let mut i: usize = 0;
     while i < 32 {
@@ -65,13 +65,13 @@ fn write_lateness(slots: usize, moments: Moments, seen: Moments) {
         put_lateness(&mut bytes, i, of_slot(slots, moments, i, when));
         i += 1;
     }
-    write_first(&bytes, MOMENTS_IMAGE);
+    write_first(rt, &bytes, MOMENTS_IMAGE);
 }
 
 // 08: the seen times of 32 slots; false where one says neither yes nor no, and where the input ends before.
-pub fn lateness_operation(turn: Turn) -> bool {
+pub fn lateness_operation(rt: &HostRuntime, turn: Turn) -> bool {
     let mut image = [0u8; MOMENTS_IMAGE];
-    if !fill(&mut image, MOMENTS_IMAGE) {
+    if !fill(rt, &mut image, MOMENTS_IMAGE) {
         return false;
     }
     if !are_good_moments(&image) {
@@ -79,13 +79,13 @@ pub fn lateness_operation(turn: Turn) -> bool {
     }
     let setup = turn.setup;
     let moments = turn.moments;
-    write_lateness(setup.slots, moments, moments_in(&image));
+    write_lateness(rt, setup.slots, moments, moments_in(&image));
     true
 }
 
 // ---- Over a list
 
-fn write_report(r: Report) {
+fn write_report(rt: &HostRuntime, r: Report) {
     let mut bytes = [0u8; WRITTEN];
     put(&mut bytes, 0, r.number);
     put_four(&mut bytes, 1, u64_of_u32(r.early));
@@ -94,7 +94,7 @@ fn write_report(r: Report) {
     put_eight(&mut bytes, 13, bits_of(r.least));
     put_eight(&mut bytes, 21, bits_of(r.greatest));
     put_eight(&mut bytes, 29, bits_of(r.sum));
-    write_first(&bytes, WRITTEN);
+    write_first(rt, &bytes, WRITTEN);
 }
 
 // The totals of as many differences as the list has.
@@ -113,16 +113,16 @@ fn report_first(bytes: &[u8], n: usize) -> Report {
 }
 
 // 09: a count, at most 9,100, and as many differences; false where there are more, and where the input ends before.
-pub fn totals_operation() -> bool {
+pub fn totals_operation(rt: &HostRuntime) -> bool {
     let mut head = [0u8; 2];
     let mut bytes = [0u8; BYTES];
-    if !fill(&mut head, 2) {
+    if !fill(rt, &mut head, 2) {
         return false;
     }
     let n = usize_of_u16(two_at(&head, 0));
-    if !fill(&mut bytes, 8 * n) {
+    if !fill(rt, &mut bytes, 8 * n) {
         return false;
     }
-    write_report(report_first(&bytes, n));
+    write_report(rt, report_first(&bytes, n));
     true
 }

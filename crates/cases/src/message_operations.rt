@@ -16,10 +16,10 @@ fn write_into(room: &mut [u8], n: usize, kind: u8, id: u16, reason: u8) -> u8 {
 
 // 0D: kind, ID, reason and the length of the room, whose every byte is EEh before; false where that is above 40, and where the input
 // ends before.
-pub fn write_operation() -> bool {
+pub fn write_operation(rt: &HostRuntime) -> bool {
     let mut body = [0u8; 5];
     let mut room = [0xEEu8; MOST];
-    if !fill(&mut body, 5) {
+    if !fill(rt, &mut body, 5) {
         return false;
     }
     let n = usize_of_u8(byte_at(&body, 4));
@@ -33,8 +33,8 @@ pub fn write_operation() -> bool {
         two_at(&body, 1),
         byte_at(&body, 3),
     );
-    write_number(number);
-    write_first(&room, n);
+    write_number(rt, number);
+    write_first(rt, &room, n);
     true
 }
 
@@ -54,16 +54,16 @@ fn fields_of(message: Message) -> [u8; 5] {
 }
 
 // 0E: a length and as many bytes; false where that is above 40, and where the input ends before.
-pub fn read_operation() -> bool {
+pub fn read_operation(rt: &HostRuntime) -> bool {
     let mut bytes = [0u8; MOST];
-    let n = usize_of_u8(byte_or_255());
+    let n = usize_of_u8(byte_or_255(rt));
     if n > MOST {
         return false;
     }
-    if !fill(&mut bytes, n) {
+    if !fill(rt, &mut bytes, n) {
         return false;
     }
     let read = fields_of(messages::read(&bytes[0..n]));
-    write_first(&read, 5);
+    write_first(rt, &read, 5);
     true
 }

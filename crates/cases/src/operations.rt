@@ -10,6 +10,7 @@ use state_image::state::{image_size, is_good_image, port_in, statuses_in};
 
 // 01
 pub fn set_up_operation(
+    rt: &HostRuntime,
     lent: usize,
     turn: Turn,
     live: &mut [u32],
@@ -19,8 +20,8 @@ pub fn set_up_operation(
     let made = set_up_lent(lent, turn, &mut *live, defaults, &mut *cells);
     let port = made.port;
     let statuses = made.statuses;
-    write_number(made.number);
-    after_call(lent, turn, port, statuses, live, cells)
+    write_number(rt, made.number);
+    after_call(rt, lent, turn, port, statuses, live, cells)
 }
 
 // Feeds the first n bytes of the input with so much room for answers.
@@ -49,6 +50,7 @@ fn feed_first(
 
 // 02: every answer byte is EEh before the call.
 pub fn feed_operation(
+    rt: &HostRuntime,
     lent: usize,
     turn: Turn,
     live: &mut [u32],
@@ -57,7 +59,7 @@ pub fn feed_operation(
 ) -> Turn {
     let mut input = [0u8; 4096];
     let mut answers = [0xEEu8; 4096];
-    let call = read_call(&mut input);
+    let call = read_call(rt, &mut input);
     if !call.good {
         return ended(turn, false);
     }
@@ -73,28 +75,47 @@ pub fn feed_operation(
     );
     let port = fed.port;
     let statuses = fed.statuses;
-    write_answers(fed.number, fed.consumed, fed.written, &answers, call.room);
-    after_call(lent, turn, port, statuses, live, cells)
+    write_answers(
+        rt,
+        fed.number,
+        fed.consumed,
+        fed.written,
+        &answers,
+        call.room,
+    );
+    after_call(rt, lent, turn, port, statuses, live, cells)
 }
 
 // Reads a state image; false where it is malformed, and where the input ends before.
-fn read_state(lent: usize, image: &mut [u8], live: &mut [u32], cells: &mut [u32]) -> bool {
-    if !fill(&mut *image, image_size(lent)) {
+fn read_state(
+    rt: &HostRuntime,
+    lent: usize,
+    image: &mut [u8],
+    live: &mut [u32],
+    cells: &mut [u32],
+) -> bool {
+    if !fill(rt, &mut *image, image_size(lent)) {
         return false;
     }
     if !is_good_image(image) {
         return false;
     }
-    if !read_words(live) {
+    if !read_words(rt, live) {
         return false;
     }
-    read_words(cells)
+    read_words(rt, cells)
 }
 
 // 03: a state replaces what is lent.
-pub fn lend_operation(lent: usize, turn: Turn, live: &mut [u32], cells: &mut [u32]) -> Turn {
+pub fn lend_operation(
+    rt: &HostRuntime,
+    lent: usize,
+    turn: Turn,
+    live: &mut [u32],
+    cells: &mut [u32],
+) -> Turn {
     let mut image = [0u8; 910];
-    if !read_state(lent, &mut image, live, cells) {
+    if !read_state(rt, lent, &mut image, live, cells) {
         return ended(turn, false);
     }
     with_port(turn, port_in(&image), statuses_in(&image))

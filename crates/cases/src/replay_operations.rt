@@ -35,28 +35,36 @@ fn replay_first(
     )
 }
 
-fn write_replay(replay: Replay, moments: Moments) {
+fn write_replay(rt: &HostRuntime, replay: Replay, moments: Moments) {
     let mut image = [0u8; REPLAY_IMAGE];
     let mut kept = [0u8; MOMENTS_IMAGE];
     put_replay(&mut image, replay);
     put_moments(&mut kept, moments);
-    write_first(&image, REPLAY_IMAGE);
-    write_first(&kept, MOMENTS_IMAGE);
+    write_first(rt, &image, REPLAY_IMAGE);
+    write_first(rt, &kept, MOMENTS_IMAGE);
 }
 
 // After a replay: the state is written, then that of the replay.
-fn after_replay(lent: usize, turn: Turn, replayed: Replayed, live: &[u32], cells: &[u32]) -> Turn {
+fn after_replay(
+    rt: &HostRuntime,
+    lent: usize,
+    turn: Turn,
+    replayed: Replayed,
+    live: &[u32],
+    cells: &[u32],
+) -> Turn {
     let port = replayed.port;
     let statuses = replayed.statuses;
     let replay = replayed.replay;
     let moments = replayed.moments;
-    let next = after_call(lent, turn, port, statuses, live, cells);
-    write_replay(replay, moments);
+    let next = after_call(rt, lent, turn, port, statuses, live, cells);
+    write_replay(rt, replay, moments);
     with_replay(next, replay, moments)
 }
 
 // 06: every answer byte is EEh before the call.
 pub fn replay_operation(
+    rt: &HostRuntime,
     lent: usize,
     turn: Turn,
     live: &mut [u32],
@@ -65,7 +73,7 @@ pub fn replay_operation(
 ) -> Turn {
     let mut input = [0u8; 4096];
     let mut answers = [0xEEu8; 4096];
-    let call = read_call(&mut input);
+    let call = read_call(rt, &mut input);
     if !call.good {
         return ended(turn, false);
     }
@@ -80,20 +88,21 @@ pub fn replay_operation(
         call,
     );
     write_answers(
+        rt,
         replayed.number,
         replayed.consumed,
         replayed.written,
         &answers,
         call.room,
     );
-    after_replay(lent, turn, replayed, live, cells)
+    after_replay(rt, lent, turn, replayed, live, cells)
 }
 
 // 07: a state of a replay replaces this one.
-pub fn lend_replay_operation(turn: Turn) -> Turn {
+pub fn lend_replay_operation(rt: &HostRuntime, turn: Turn) -> Turn {
     let mut image = [0u8; REPLAY_IMAGE];
     let mut kept = [0u8; MOMENTS_IMAGE];
-    if !fill(&mut image, REPLAY_IMAGE) | !fill(&mut kept, MOMENTS_IMAGE) {
+    if !fill(rt, &mut image, REPLAY_IMAGE) | !fill(rt, &mut kept, MOMENTS_IMAGE) {
         return ended(turn, false);
     }
     if !is_good_image(&image) | !are_good_moments(&kept) {

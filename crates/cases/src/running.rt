@@ -11,6 +11,7 @@ use readiness::Setup;
 
 // One operation; 00 ends the case, and any other number is a bad one.
 fn operate(
+    rt: &HostRuntime,
     operation: u8,
     lent: usize,
     turn: Turn,
@@ -19,22 +20,23 @@ fn operate(
     cells: &mut [u32],
 ) -> Turn {
     match operation {
-        1 => set_up_operation(lent, turn, live, defaults, cells),
-        2 => feed_operation(lent, turn, live, defaults, cells),
-        3 => lend_operation(lent, turn, live, cells),
-        4 => sheet_operation(turn),
-        6 => replay_operation(lent, turn, live, defaults, cells),
-        7 => lend_replay_operation(turn),
-        8 => went_by(turn, lateness_operation(turn)),
-        9 => went_by(turn, totals_operation()),
-        0x0D => went_by(turn, write_operation()),
-        0x0E => went_by(turn, read_operation()),
+        1 => set_up_operation(rt, lent, turn, live, defaults, cells),
+        2 => feed_operation(rt, lent, turn, live, defaults, cells),
+        3 => lend_operation(rt, lent, turn, live, cells),
+        4 => sheet_operation(rt, turn),
+        6 => replay_operation(rt, lent, turn, live, defaults, cells),
+        7 => lend_replay_operation(rt, turn),
+        8 => went_by(turn, lateness_operation(rt, turn)),
+        9 => went_by(turn, totals_operation(rt)),
+        0x0D => went_by(turn, write_operation(rt)),
+        0x0E => went_by(turn, read_operation(rt)),
         _ => ended(turn, operation == 0),
     }
 }
 
 // The loop counts its turns down from a number that no run uses up.
 fn run_operations(
+    rt: &HostRuntime,
     setup: Setup,
     lent: usize,
     live: &mut [u32],
@@ -44,8 +46,8 @@ fn run_operations(
     let mut turn = first_turn(setup);
     let mut turns = u64::MAX;
     while turns > 0 && turn.goes_on {
-        let operation = byte_or_255();
-        turn = operate(operation, lent, turn, &mut *live, defaults, &mut *cells);
+        let operation = byte_or_255(rt);
+        turn = operate(rt, operation, lent, turn, &mut *live, defaults, &mut *cells);
         turns -= 1;
     }
     turn.good
@@ -53,6 +55,7 @@ fn run_operations(
 
 // Lends the first words and cells of each; false where a length is above its limit, and after a bad case.
 fn run_over(
+    rt: &HostRuntime,
     setup: Setup,
     lengths: Lengths,
     live: &mut [u32],
@@ -72,6 +75,7 @@ fn run_over(
         return false;
     }
     run_operations(
+        rt,
         setup,
         lengths.statuses,
         &mut live[0..l],
@@ -81,30 +85,31 @@ fn run_over(
 }
 
 // Reads the first n words; false where there are fewer, and where the input ends before.
-fn read_first(words: &mut [u32], n: usize) -> bool {
+fn read_first(rt: &HostRuntime, words: &mut [u32], n: usize) -> bool {
     if n <= words.len() {
-        return read_words(&mut words[0..n]);
+        return read_words(rt, &mut words[0..n]);
     }
     false
 }
 
 // The rest of a case after its first byte, the number of slots; false after a bad case.
-pub fn run_case(slots: u8) -> bool {
+pub fn run_case(rt: &HostRuntime, slots: u8) -> bool {
     let mut front = [0u8; FRONT];
     let mut live = [0u32; 2112];
     let mut defaults = [0u32; 2112];
     let mut cells = [0u32; 4200];
-    if !fill(&mut front, FRONT) {
+    if !fill(rt, &mut front, FRONT) {
         return false;
     }
     if !is_good_front(&front) {
         return false;
     }
     let lengths = lengths_in(&front);
-    if !read_first(&mut defaults, lengths.defaults) {
+    if !read_first(rt, &mut defaults, lengths.defaults) {
         return false;
     }
     run_over(
+        rt,
         setup_in(slots, &front),
         lengths,
         &mut live,

@@ -17,18 +17,18 @@ const MOST: usize = 4096;
 const WRITTEN: usize = 259;
 
 // A sheet's length, at most 4,096, and the sheet: whether both are there.
-#[derive(Drop)]
+#[derive(Clone, Copy)]
 pub struct Text {
     pub good: bool,
     pub n: usize,
 }
 
-fn read_text(text: &mut [u8]) -> Text {
+fn read_text(rt: &HostRuntime, text: &mut [u8]) -> Text {
     let mut head = [0u8; 2];
-    let whole = fill(&mut head, 2);
+    let whole = fill(rt, &mut head, 2);
     let n = usize_of_u16(two_at(&head, 0));
     Text {
-        good: whole & fill(text, n),
+        good: whole & fill(rt, text, n),
         n: n,
     }
 }
@@ -53,14 +53,14 @@ fn put_entries(bytes: &mut [u8], setup: Setup) {
     }
 }
 
-fn write_read(read: SheetRead) {
+fn write_read(rt: &HostRuntime, read: SheetRead) {
     let mut bytes = [0u8; WRITTEN];
     let line = read.line % 65536;
     let setup = read.setup;
     put(&mut bytes, 0, read.number);
     put_two(&mut bytes, 1, line);
     put_entries(&mut bytes, setup);
-    write_first(&bytes, WRITTEN);
+    write_first(rt, &bytes, WRITTEN);
 }
 
 // Reads the first n bytes of a text on a set-up.
@@ -70,15 +70,15 @@ fn read_first(text: &[u8], n: usize, setup: Setup) -> SheetRead {
 }
 
 // 04: the entries that the sheet leaves are those of the set-up from here on.
-pub fn sheet_operation(turn: Turn) -> Turn {
+pub fn sheet_operation(rt: &HostRuntime, turn: Turn) -> Turn {
     let mut bytes = [0u8; MOST];
-    let text = read_text(&mut bytes);
+    let text = read_text(rt, &mut bytes);
     if !text.good {
         return ended(turn, false);
     }
     let setup = turn.setup;
     let read = read_first(&bytes, text.n, setup);
-    write_read(read);
+    write_read(rt, read);
     let left = read.setup;
     with_setup(turn, left)
 }

@@ -4,7 +4,7 @@ use readiness::{Moments, Setup, Status, all_down, no_moments};
 use records::{Port, blank_port};
 
 // Whether the case goes on, whether all was good so far, the set-up, the port, the statuses, the state of the replay and the moments that it keeps.
-#[derive(Drop)]
+#[derive(Clone, Copy)]
 pub struct Turn {
     pub goes_on: bool,
     pub good: bool,

@@ -2,6 +2,8 @@
 ghost use Rattle.std.specs.Prelude.{◌≡◌};
 
 use crate::outcome::Outcome;
+use cli_io::args;
+use cli_io::args::arg;
 use cli_io::files::complain;
 
 // Whether the first n bytes of an argument are this word.
@@ -31,17 +33,17 @@ fn is_at(arg: &[u8], at: usize, b: u8) -> bool {
 }
 
 // Whether argument i is this word.
-pub fn arg_is(i: usize, word: &[u8]) -> bool {
-    let mut arg = [0u8; 16];
-    let n = os::arg(i, &mut arg);
-    is_word(&arg, n, word)
+pub fn arg_is(rt: &HostRuntime, i: usize, word: &[u8]) -> bool {
+    let mut given = [0u8; 16];
+    let n = arg(rt, i, &mut given);
+    is_word(&given, n, word)
 }
 
 // How many arguments there are, the program's name with them.
-pub fn arg_count() -> usize {
-    let n = os::arg_count();
+pub fn arg_count(rt: &HostRuntime) -> usize {
+    let n = args::arg_count(rt);
     if n > 1 {
-        if arg_is(n - 1, b"--status") {
+        if arg_is(rt, n - 1, b"--status") {
             return n - 1;
         }
     }
@@ -49,11 +51,11 @@ pub fn arg_count() -> usize {
 }
 
 // Says what was expected.
-pub fn bad_usage(expected: &[u8]) -> Outcome
+pub fn bad_usage(rt: &HostRuntime, expected: &[u8]) -> Outcome
     ensures { result ≡ Outcome.Unusable }
 {
-    complain(b"otsnebura: ");
-    complain(expected);
-    complain(b" (otsnebura --help)\n");
+    complain(rt, b"otsnebura: ");
+    complain(rt, expected);
+    complain(rt, b" (otsnebura --help)\n");
     Outcome::Unusable
 }

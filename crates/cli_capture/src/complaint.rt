@@ -6,11 +6,11 @@ use describe_capture::finding::{fault_byte, is_fault};
 use text_line::text::LINE;
 
 // Says what ends the file of argument i early, if anything does; the next byte is at `next`.
-pub fn complain_capture(i: usize, next: u64, fault: CaptureFault) {
+pub fn complain_capture(rt: &HostRuntime, i: usize, next: u64, fault: CaptureFault) {
     if is_fault(fault) {
         let mut line = [0u8; LINE];
-        name_file(i);
+        name_file(rt, i);
         let end = put_fault_message(&mut line, 0, fault_byte(next, fault), fault);
-        complain_line(&line, end);
+        complain_line(rt, &line, end);
     }
 }

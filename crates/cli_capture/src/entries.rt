@@ -6,7 +6,7 @@ use cli_io::trace_file::{Held, nothing_held, take};
 
 // The bytes of the next entry, as far as they were taken: those of its stamp, with zeros after them, how many there are, and those of its
 // record.
-#[derive(Drop)]
+#[derive(Clone, Copy)]
 pub struct Entry {
     pub stamp: [u8; 4],
     pub stamp_len: usize,
@@ -14,7 +14,7 @@ pub struct Entry {
 }
 
 // An entry that was taken as far as it goes, and where the next byte is.
-#[derive(Drop)]
+#[derive(Clone, Copy)]
 pub struct TookEntry {
     pub entry: Entry,
     pub from: usize,

@@ -8,7 +8,7 @@ use readiness::{Setup, blank_setup};
 use text_line::text::{LINE, put_named, put_text};
 
 // A card from a file: whether it is one, how the reading ended, and the card.
-#[derive(Drop)]
+#[derive(Clone, Copy)]
 pub struct Loaded {
     pub good: bool,
     pub outcome: Outcome,
@@ -83,36 +83,39 @@ fn put_reason(line: &mut [u8], at: usize, reason: Reason) -> usize {
     }
 }
 
-fn refuse(i: usize, number: usize, reason: Reason) -> Loaded {
+fn refuse(rt: &HostRuntime, i: usize, number: usize, reason: Reason) -> Loaded {
     let mut line = [0u8; LINE];
-    name_file(i);
+    name_file(rt, i);
     let a = put_named(&mut line, 0, b"line ", u64_of_usize(number));
     let b = put_text(&mut line, a, b": ");
     let c = put_reason(&mut line, b, reason);
-    complain_line(&line, c);
+    complain_line(rt, &line, c);
     no_card(Outcome::Refused)
 }
 
 // ---- Reading
 
-fn too_long(i: usize) -> Loaded {
-    name_file(i);
-    complain(b"too long: expected a card of fewer than 131072 bytes\n");
+fn too_long(rt: &HostRuntime, i: usize) -> Loaded {
+    name_file(rt, i);
+    complain(
+        rt,
+        b"too long: expected a card of fewer than 131072 bytes\n",
+    );
     no_card(Outcome::Refused)
 }
 
-fn unread(i: usize, f: TextRead) -> Loaded {
-    complain_read(i, u64_of_usize(f.count), f.error);
+fn unread(rt: &HostRuntime, i: usize, f: TextRead) -> Loaded {
+    complain_read(rt, i, u64_of_usize(f.count), f.error);
     no_card(Outcome::Unusable)
 }
 
 // The card that a text is.
-fn card_of(i: usize, text: &[u8], words: &mut [u32]) -> Loaded {
+fn card_of(rt: &HostRuntime, i: usize, text: &[u8], words: &mut [u32]) -> Loaded {
     let got = card_text::read_card(text, words);
     let reason = got.reason;
     let setup = got.setup;
     if !got.ok {
-        return refuse(i, got.line, reason);
+        return refuse(rt, i, got.line, reason);
     }
     Loaded {
         good: true,
@@ -123,23 +126,23 @@ fn card_of(i: usize, text: &[u8], words: &mut [u32]) -> Loaded {
 }
 
 // The card in what was read.
-fn card_in(i: usize, text: &[u8], f: TextRead, words: &mut [u32]) -> Loaded {
+fn card_in(rt: &HostRuntime, i: usize, text: &[u8], f: TextRead, words: &mut [u32]) -> Loaded {
     if f.error != 0 {
-        return unread(i, f);
+        return unread(rt, i, f);
     }
     let n = f.count;
     if n < text.len() {
-        return card_of(i, &text[0..n], words);
+        return card_of(rt, i, &text[0..n], words);
     }
-    too_long(i)
+    too_long(rt, i)
 }
 
 // The card in the file that argument i names; its default words are put into the words lent.
-pub fn load_card(i: usize, words: &mut [u32]) -> Loaded {
+pub fn load_card(rt: &HostRuntime, i: usize, words: &mut [u32]) -> Loaded {
     let mut text = [0u8; TEXT];
-    let f = read_text(i, &mut text);
+    let f = read_text(rt, i, &mut text);
     if !f.opened {
         return no_card(Outcome::Unusable);
     }
-    card_in(i, &text, f, words)
+    card_in(rt, i, &text, f, words)
 }

@@ -131,13 +131,19 @@ fn put_refused(line: &mut [u8], at: usize, number: u8, setup: Setup, words: &[u3
 }
 
 // Says that the set-up of the card that argument i names is refused.
-pub fn complain_refusal(i: usize, setup: Setup, number: u8, words: &[u32]) -> Outcome
+pub fn complain_refusal(
+    rt: &HostRuntime,
+    i: usize,
+    setup: Setup,
+    number: u8,
+    words: &[u32],
+) -> Outcome
     ensures { result ≡ Outcome.Refused }
 {
     let mut line = [0u8; LINE];
-    name_file(i);
+    name_file(rt, i);
     let a = put_refusal(&mut line, 0, number);
     let b = put_refused(&mut line, a, number, setup, words);
-    complain_line(&line, b);
+    complain_line(rt, &line, b);
     Outcome::Refused
 }

@@ -3,10 +3,22 @@ ghost use Rattle.std.specs.Prelude.{◌≡◌, ◌≤◌, pos};
 
 use crate::files::last_error;
 use bits::at_most;
+use std::fs::File;
+use std::io;
+use std::io::Write;
 use text_line::text::{LINE, put_byte};
 
+// Where bytes are written: nowhere, to standard output, to standard error, or to a file.
+#[derive(Clone, Copy)]
+pub enum Sink<'a> {
+    Nowhere,
+    Output(&'a HostRuntime),
+    Errors(&'a HostRuntime),
+    Kept(&'a File),
+}
+
 // How many bytes of a buffer wait to be written, and the error of the first write that failed, 0 while none has.
-#[derive(Drop)]
+#[derive(Clone, Copy)]
 pub struct Waiting {
     pub count: usize,
     pub error: i32,
@@ -18,20 +30,32 @@ pub fn nothing_waits() -> Waiting
     Waiting { count: 0, error: 0 }
 }
 
-// Writes bytes; 0, or the error.
-fn write_bytes(fd: i32, bytes: &[u8]) -> i32 {
-    if io::write_all(fd, bytes) {
-        return 0;
+fn write_to(to: Sink<'_>, bytes: &[u8]) -> io::Result<()> {
+    match to {
+        Sink::Nowhere => Ok(()),
+        Sink::Output(rt) => Print::write_all(&rt.stdout(), bytes),
+        Sink::Errors(rt) => Print::write_all(&rt.stderr(), bytes),
+        Sink::Kept(file) => {
+            let mut end = file;
+            Write::write_all(&mut end, bytes)
+        }
     }
-    last_error()
 }
 
-// Writes what waits, so that nothing waits. Nothing is written after an error, nor where there is no file (-1).
-pub fn flush(fd: i32, buffer: &[u8], w: Waiting) -> Waiting
+// Writes bytes; 0, or the error.
+pub fn write_bytes(to: Sink<'_>, bytes: &[u8]) -> i32 {
+    match write_to(to, bytes) {
+        Ok(()) => 0,
+        Err(e) => last_error(&e),
+    }
+}
+
+// Writes what waits, so that nothing waits. Nothing is written after an error, nor where there is nowhere to write.
+pub fn flush(to: Sink<'_>, buffer: &[u8], w: Waiting) -> Waiting
     ensures { result.count ≡ 0 }
 {
     let n = at_most(w.count, buffer.len());
-    if (fd < 0) | (w.error != 0) {
+    if w.error != 0 {
         return Waiting {
             count: 0,
             error: w.error,
@@ -39,7 +63,7 @@ pub fn flush(fd: i32, buffer: &[u8], w: Waiting) -> Waiting
     }
     Waiting {
         count: 0,
-        error: write_bytes(fd, &buffer[0..n]),
+        error: write_bytes(to, &buffer[0..n]),
     }
 }
 
@@ -52,29 +76,29 @@ fn is_short(count: usize, room: usize, wanted: usize) -> bool {
 }
 
 // Makes room for so many bytes more.
-pub fn make_room(fd: i32, buffer: &[u8], w: Waiting, wanted: usize) -> Waiting
+pub fn make_room(to: Sink<'_>, buffer: &[u8], w: Waiting, wanted: usize) -> Waiting
     ensures { result.count ≤ w.count }
 {
     if is_short(w.count, buffer.len(), wanted) {
-        return flush(fd, buffer, w);
+        return flush(to, buffer, w);
     }
     w
 }
 
 // The line that was put into the buffer after what waits, and whose end is at `end`, waits for standard output. Afterwards there is
 // room for the next.
-pub fn end_line(buffer: &mut [u8], w: Waiting, end: usize) -> Waiting {
+pub fn end_line(rt: &HostRuntime, buffer: &mut [u8], w: Waiting, end: usize) -> Waiting {
     let count = put_byte(&mut *buffer, end, 0x0A);
     let longer = Waiting {
         count: count,
         error: w.error,
     };
-    make_room(libc::STDOUT_FILENO, buffer, longer, LINE)
+    make_room(Sink::Output(rt), buffer, longer, LINE)
 }
 
 // What waits for standard output is written.
-pub fn flush_out(buffer: &[u8], w: Waiting) -> Waiting
+pub fn flush_out(rt: &HostRuntime, buffer: &[u8], w: Waiting) -> Waiting
     ensures { result.count ≡ 0 }
 {
-    flush(libc::STDOUT_FILENO, buffer, w)
+    flush(Sink::Output(rt), buffer, w)
 }

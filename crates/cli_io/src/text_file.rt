@@ -3,12 +3,14 @@ ghost use Rattle.std.specs.Prelude.{◌≤◌, length};
 
 use crate::files::{close_file, last_error, open_file};
 use bits::at_most;
+use std::fs::File;
+use std::io::Read;
 
 // The most bytes that a text has, and one more, which shows that a file is longer.
 pub const TEXT: usize = 131072;
 
 // How many bytes of a file were read, whether there are more, and the error that ended the reading, 0 where none did.
-#[derive(Drop)]
+#[derive(Clone, Copy)]
 struct Filled {
     goes_on: bool,
     count: usize,
@@ -16,28 +18,27 @@ struct Filled {
 }
 
 // Reads what comes next.
-fn fill_more(fd: i32, f: Filled, text: &mut [u8]) -> Filled
+fn fill_more(file: &File, f: Filled, text: &mut [u8]) -> Filled
     ensures { result.count ≤ length text.old }
 {
     let at = at_most(f.count, text.len());
-    let got = libc::read(fd, &mut text[at..]);
-    if got < 0 {
-        return Filled {
+    let mut from = file;
+    match from.read(&mut text[at..]) {
+        Err(e) => Filled {
             goes_on: false,
             count: at,
-            error: last_error(),
-        };
-    }
-    let n = io::count(got, &text[at..]);
-    Filled {
-        goes_on: n > 0,
-        count: at + n,
-        error: 0,
+            error: last_error(&e),
+        },
+        Ok(n) => Filled {
+            goes_on: n > 0,
+            count: at + n,
+            error: 0,
+        },
     }
 }
 
 // Reads a file until its end, or until the room is full.
-fn fill(fd: i32, text: &mut [u8]) -> Filled
+fn fill(file: &File, text: &mut [u8]) -> Filled
     ensures { result.count ≤ length text.old }
 {
     let mut f = Filled {
@@ -47,14 +48,14 @@ fn fill(fd: i32, text: &mut [u8]) -> Filled
     };
     let mut turns: usize = TEXT + 1;
     while turns > 0 && f.goes_on {
-        f = fill_more(fd, f, &mut *text);
+        f = fill_more(file, f, &mut *text);
         turns -= 1;
     }
     f
 }
 
 // Whether a file was opened, how many of its bytes were read, and the error that ended the reading, 0 where none did.
-#[derive(Drop)]
+#[derive(Clone, Copy)]
 pub struct TextRead {
     pub opened: bool,
     pub count: usize,
@@ -62,19 +63,18 @@ pub struct TextRead {
 }
 
 // Reads the file that argument i names, as far as there is room. Where it can't be opened, it is said why.
-pub fn read_text(i: usize, text: &mut [u8]) -> TextRead
+pub fn read_text(rt: &HostRuntime, i: usize, text: &mut [u8]) -> TextRead
     ensures { result.count ≤ length text.old }
 {
-    let fd = open_file(i);
-    if fd < 0 {
+    let Some(file) = open_file(rt, i) else {
         return TextRead {
             opened: false,
             count: 0,
             error: 0,
         };
-    }
-    let f = fill(fd, text);
-    close_file(fd);
+    };
+    let f = fill(&file, text);
+    close_file(file);
     TextRead {
         opened: true,
         count: f.count,

@@ -4,6 +4,8 @@ ghost use Rattle.std.specs.Prelude.{◌≡◌, ◌+◌, ◌≤◌, min, false, �
 use crate::files::{complain_line, last_error, name_file};
 use bits::{at_most, byte_at, u64_of_u8, u64_of_usize};
 use decode::gathering::size_of;
+use std::fs::File;
+use std::io::Read;
 use text_line::text::{LINE, put_hex2, put_named, put_text};
 
 // How much is read at once.
@@ -11,7 +13,7 @@ pub const PIECE: usize = 65536;
 
 // What was read and not yet taken: the bytes of a buffer from `from` up to `to`. Whether the file has ended, and the error that ended
 // the reading, 0 where none did.
-#[derive(Drop)]
+#[derive(Clone, Copy)]
 pub struct Piece {
     pub from: usize,
     pub to: usize,
@@ -30,7 +32,9 @@ pub fn nothing_read() -> Piece
     }
 }
 
-fn piece_of(count: usize) -> Piece {
+fn piece_of(count: usize) -> Piece
+    ensures { result.from ≡ 0 }
+{
     Piece {
         from: 0,
         to: count,
@@ -39,18 +43,20 @@ fn piece_of(count: usize) -> Piece {
     }
 }
 
-// Reads the next piece of a file.
-pub fn read_piece(fd: i32, buffer: &mut [u8]) -> Piece {
-    let got = libc::read(fd, &mut *buffer);
-    if got < 0 {
-        return Piece {
+// Reads the next piece of a file: what is read stands from the buffer's first byte on.
+pub fn read_piece(file: &File, buffer: &mut [u8]) -> Piece
+    ensures { result.from ≡ 0 }
+{
+    let mut from = file;
+    match from.read(buffer) {
+        Ok(n) => piece_of(n),
+        Err(e) => Piece {
             from: 0,
             to: 0,
             ended: true,
-            error: last_error(),
-        };
+            error: last_error(&e),
+        },
     }
-    piece_of(io::count(got, buffer))
 }
 
 // An index moved on by n, up to the end.
@@ -79,7 +85,7 @@ pub fn passed(piece: Piece, n: usize) -> Piece
 
 // The bytes of the next record, as far as they were taken, with zeros after them; how many there are; and how many a record of its
 // kind has, 0 where there is no such kind.
-#[derive(Drop)]
+#[derive(Clone, Copy)]
 pub struct Held {
     pub bytes: [u8; 17],
     pub count: usize,
@@ -87,7 +93,7 @@ pub struct Held {
 }
 
 // A record that was taken as far as it goes, and where the next byte is.
-#[derive(Drop)]
+#[derive(Clone, Copy)]
 pub struct Took {
     pub held: Held,
     pub from: usize,
@@ -152,7 +158,7 @@ pub fn take(first: Held, buffer: &[u8], from: usize, to: usize) -> Took
 
 // A byte that is no kind (size 0), or a record that the file's end cuts off: its first byte, how many of its bytes there are, and how
 // many it has. With count 0 nothing is wrong.
-#[derive(Drop)]
+#[derive(Clone, Copy)]
 pub struct Fault {
     pub kind: u8,
     pub count: usize,
@@ -192,14 +198,14 @@ fn put_fault(line: &mut [u8], at: usize, fault: Fault) -> usize {
 }
 
 // Says what is wrong at this byte of the file that argument i names.
-pub fn complain_fault(i: usize, offset: u64, fault: Fault) {
+pub fn complain_fault(rt: &HostRuntime, i: usize, offset: u64, fault: Fault) {
     if fault.count == 0 {
         return;
     }
     let mut line = [0u8; LINE];
-    name_file(i);
+    name_file(rt, i);
     let a = put_named(&mut line, 0, b"byte ", offset);
     let b = put_text(&mut line, a, b": ");
     let c = put_fault(&mut line, b, fault);
-    complain_line(&line, c);
+    complain_line(rt, &line, c);
 }

@@ -2,7 +2,7 @@
 ghost use Rattle.std.specs.Prelude.{◌≡◌};
 
 use bits::u64_of_usize;
-use cli_io::printing::{Waiting, end_line, make_room};
+use cli_io::printing::{Sink, Waiting, end_line, make_room};
 use describe_lateness::csv::put_header;
 use describe_lateness::rows::put_row;
 use lateness::bench_time;
@@ -12,12 +12,12 @@ use text_line::text::{LINE, put_byte, put_text};
 // Room for a line after a name of 4096 bytes.
 const ROOM: usize = 8192;
 
-// What waits for standard output, and for the file of rows, whose descriptor is -1 where there is none.
-#[derive(Drop)]
-pub struct Outputs {
+// What waits for standard output, and for the file of rows, and where those are written: nowhere, where there is no such file.
+#[derive(Clone, Copy)]
+pub struct Outputs<'a> {
     pub out: Waiting,
     pub rows: Waiting,
-    pub fd: i32,
+    pub to: Sink<'a>,
 }
 
 fn is_moment(m: Moment) -> bool {
@@ -28,8 +28,8 @@ fn is_moment(m: Moment) -> bool {
 }
 
 // The names of the columns.
-pub fn begin_rows(rows: &mut [u8], o: Outputs) -> Outputs
-    ensures { result.fd ≡ o.fd }
+pub fn begin_rows<'a>(rows: &mut [u8], o: Outputs<'a>) -> Outputs<'a>
+    ensures { result.to ≡ o.entry.to }
 {
     let mut p = o;
     let w = o.rows;
@@ -46,13 +46,13 @@ pub fn begin_rows(rows: &mut [u8], o: Outputs) -> Outputs
 fn with_row(
     rows: &mut [u8],
     w: Waiting,
-    fd: i32,
+    to: Sink<'_>,
     name: &[u8],
     slot: usize,
     bench: Moment,
     seen: Moment,
 ) -> Waiting {
-    let room = make_room(fd, &*rows, w, ROOM);
+    let room = make_room(to, &*rows, w, ROOM);
     let a = describe_lateness::csv::put_row(
         &mut *rows,
         room.count,
@@ -63,7 +63,7 @@ fn with_row(
     );
     let b = put_byte(&mut *rows, a, 0x0A);
     make_room(
-        fd,
+        to,
         rows,
         Waiting {
             count: b,
@@ -74,6 +74,7 @@ fn with_row(
 }
 
 fn with_printed(
+    rt: &HostRuntime,
     printed: &mut [u8],
     w: Waiting,
     name: &[u8],
@@ -81,24 +82,25 @@ fn with_printed(
     bench: Moment,
     seen: Moment,
 ) -> Waiting {
-    let room = make_room(libc::STDOUT_FILENO, &*printed, w, ROOM);
+    let room = make_room(Sink::Output(rt), &*printed, w, ROOM);
     let a = put_text(&mut *printed, room.count, name);
     let b = put_text(&mut *printed, a, b": ");
     let c = put_row(&mut *printed, b, u64_of_usize(slot), bench, seen);
-    end_line(printed, room, c)
+    end_line(rt, printed, room, c)
 }
 
 // The line and the row of a slot that has a bench time or a seen time.
-fn put_one(
+fn put_one<'a>(
+    rt: &HostRuntime,
     printed: &mut [u8],
     rows: &mut [u8],
-    o: Outputs,
+    o: Outputs<'a>,
     name: &[u8],
     slot: usize,
     bench: Moment,
     seen: Moment,
-) -> Outputs
-    ensures { result.fd ≡ o.fd }
+) -> Outputs<'a>
+    ensures { result.to ≡ o.entry.to }
 {
     if !is_moment(bench) & !is_moment(seen) {
         return o;
@@ -106,31 +108,32 @@ fn put_one(
     let mut p = o;
     let waits = o.out;
     let kept = o.rows;
-    let out = with_printed(printed, waits, name, slot, bench, seen);
-    let more = with_row(rows, kept, o.fd, name, slot, bench, seen);
+    let out = with_printed(rt, printed, waits, name, slot, bench, seen);
+    let more = with_row(rows, kept, o.to, name, slot, bench, seen);
     p.out = out;
     p.rows = more;
     p
 }
 
 // The lines and rows of a capture.
-pub fn put_capture(
+pub fn put_capture<'a>(
+    rt: &HostRuntime,
     printed: &mut [u8],
     rows: &mut [u8],
-    first: Outputs,
+    first: Outputs<'a>,
     name: &[u8],
     slots: usize,
     bench: Moments,
     seen: Moments,
-) -> Outputs
-    ensures { result.fd ≡ first.fd }
+) -> Outputs<'a>
+    ensures { result.to ≡ first.entry.to }
 {
     let mut o = first;
     let mut i: usize = 0;
     while i < 32 {
         let made = bench_time(slots, bench, i);
         let saw = bench_time(slots, seen, i);
-        o = put_one(&mut *printed, &mut *rows, o, name, i, made, saw);
+        o = put_one(rt, &mut *printed, &mut *rows, o, name, i, made, saw);
         i += 1;
     }
     o

@@ -9,7 +9,7 @@ use seen_grammar::SeenRefusal;
 use text_line::text::LINE;
 
 // The seen times from a file: whether it is one, how the reading ended, and the times.
-#[derive(Drop)]
+#[derive(Clone, Copy)]
 pub struct SeenFile {
     pub good: bool,
     pub outcome: Outcome,
@@ -27,16 +27,16 @@ fn no_seen_file(outcome: Outcome) -> SeenFile {
 }
 
 // Says why the file that argument i names is refused.
-fn refuse(i: usize, count: usize, why: SeenRefusal) -> SeenFile {
+fn refuse(rt: &HostRuntime, i: usize, count: usize, why: SeenRefusal) -> SeenFile {
     let mut line = [0u8; LINE];
-    name_file(i);
+    name_file(rt, i);
     let n = put_file_refusal(&mut line, 0, u64_of_usize(count), why);
-    complain_line(&line, n);
+    complain_line(rt, &line, n);
     no_seen_file(Outcome::Refused)
 }
 
 // The seen times in a text, for a card of so many slots.
-fn seen_in(i: usize, text: &[u8], slots: usize) -> SeenFile {
+fn seen_in(rt: &HostRuntime, i: usize, text: &[u8], slots: usize) -> SeenFile {
     let got = seen::read(text, slots);
     let refusal = got.refusal;
     let times = got.times;
@@ -46,22 +46,22 @@ fn seen_in(i: usize, text: &[u8], slots: usize) -> SeenFile {
             outcome: Outcome::Done,
             times: times,
         },
-        _ => refuse(i, got.line, refusal),
+        _ => refuse(rt, i, got.line, refusal),
     }
 }
 
 // Reads the file that argument i names. The room is more than enough: the longest file that is accepted has 992 bytes, and the earliest
 // bad line of a longer one stands within the room.
-pub fn load_seen(i: usize, slots: usize) -> SeenFile {
+pub fn load_seen(rt: &HostRuntime, i: usize, slots: usize) -> SeenFile {
     let mut text = [0u8; TEXT];
-    let f = read_text(i, &mut text);
+    let f = read_text(rt, i, &mut text);
     if !f.opened {
         return no_seen_file(Outcome::Unusable);
     }
     if f.error != 0 {
-        complain_read(i, u64_of_usize(f.count), f.error);
+        complain_read(rt, i, u64_of_usize(f.count), f.error);
         return no_seen_file(Outcome::Unusable);
     }
     let n = at_most(f.count, TEXT);
-    seen_in(i, &text[0..n], slots)
+    seen_in(rt, i, &text[0..n], slots)
 }

@@ -15,6 +15,7 @@ use text_line::text::{put_named, put_text};
 // ---- Totals
 
 // Whether there are no totals.
+#[tactic(auto, unfolding(crate::specs::Tables::is_refused))]
 fn is_refused(r: Report) -> bool
     ensures { result ≡ is_refused r }
 {
@@ -35,22 +36,29 @@ fn put_totals(line: &mut [u8], at: usize, r: Report) -> usize {
 }
 
 // The line of all differences.
-fn print_total(printed: &mut [u8], w: Waiting, r: Report) -> Waiting {
+fn print_total(rt: &HostRuntime, printed: &mut [u8], w: Waiting, r: Report) -> Waiting {
     let a = put_text(&mut *printed, w.count, b"all differences: ");
     let b = put_totals(&mut *printed, a, r);
-    end_line(printed, w, b)
+    end_line(rt, printed, w, b)
 }
 
 // The line of a slot's differences.
-fn print_slot_total(printed: &mut [u8], w: Waiting, slot: usize, r: Report) -> Waiting {
+fn print_slot_total(
+    rt: &HostRuntime,
+    printed: &mut [u8],
+    w: Waiting,
+    slot: usize,
+    r: Report,
+) -> Waiting {
     let a = put_named(&mut *printed, w.count, b"slot ", u64_of_usize(slot));
     let b = put_text(&mut *printed, a, b": ");
     let c = put_totals(&mut *printed, b, r);
-    end_line(printed, w, c)
+    end_line(rt, printed, w, c)
 }
 
 // The totals of a slot, if it has a difference; `list` is overwritten.
 fn print_chosen(
+    rt: &HostRuntime,
     printed: &mut [u8],
     w: Waiting,
     values: &[i64],
@@ -63,11 +71,12 @@ fn print_chosen(
     if n == 0 {
         return w;
     }
-    print_slot_total(printed, w, slot, totals(&list[0..n]))
+    print_slot_total(rt, printed, w, slot, totals(&list[0..n]))
 }
 
 // The totals of each slot that has a difference.
 fn print_by_slot(
+    rt: &HostRuntime,
     printed: &mut [u8],
     first: Waiting,
     values: &[i64],
@@ -77,7 +86,7 @@ fn print_by_slot(
     let mut w = first;
     let mut i: usize = 0;
     while i < 32 {
-        w = print_chosen(&mut *printed, w, values, of, i, &mut *list);
+        w = print_chosen(rt, &mut *printed, w, values, of, i, &mut *list);
         i += 1;
     }
     w
@@ -85,6 +94,7 @@ fn print_by_slot(
 
 // The totals of what was collected, by slot and in all; where they are refused, that alone.
 pub fn print_totals(
+    rt: &HostRuntime,
     printed: &mut [u8],
     w: Waiting,
     values: &[i64],
@@ -94,18 +104,19 @@ pub fn print_totals(
 ) -> Waiting {
     let r = total(values, c);
     if r.number != 0 {
-        return print_total(printed, w, r);
+        return print_total(rt, printed, w, r);
     }
     let n = at_most(c.count, values.len());
     let m = at_most(c.count, of.len());
-    let a = print_by_slot(&mut *printed, w, &values[0..n], &of[0..m], list);
-    print_total(printed, a, r)
+    let a = print_by_slot(rt, &mut *printed, w, &values[0..n], &of[0..m], list);
+    print_total(rt, printed, a, r)
 }
 
 // ---- One capture
 
 // The line of a slot that the card has.
 fn print_slot(
+    rt: &HostRuntime,
     printed: &mut [u8],
     w: Waiting,
     slots: usize,
@@ -119,10 +130,11 @@ fn print_slot(
     let made = bench_time(slots, bench, slot);
     let first = bench_time(slots, seen, slot);
     let end = put_row(&mut *printed, w.count, u64_of_usize(slot), made, first);
-    end_line(printed, w, end)
+    end_line(rt, printed, w, end)
 }
 
 fn print_slots(
+    rt: &HostRuntime,
     printed: &mut [u8],
     first: Waiting,
     slots: usize,
@@ -132,20 +144,21 @@ fn print_slots(
     let mut w = first;
     let mut i: usize = 0;
     while i < 32 {
-        w = print_slot(&mut *printed, w, slots, bench, seen, i);
+        w = print_slot(rt, &mut *printed, w, slots, bench, seen, i);
         i += 1;
     }
     w
 }
 
 // A line for each slot of the card, and the totals over their differences: whether these are refused, and what waits.
-#[derive(Drop)]
+#[derive(Clone, Copy)]
 pub struct Table {
     pub refused: bool,
     pub out: Waiting,
 }
 
 pub fn print_table(
+    rt: &HostRuntime,
     printed: &mut [u8],
     w: Waiting,
     slots: usize,
@@ -154,9 +167,9 @@ pub fn print_table(
 ) -> Table
     ensures { result.refused ≡ is_refused (capture_total slots bench seen) }
 {
-    let a = print_slots(&mut *printed, w, slots, bench, seen);
+    let a = print_slots(rt, &mut *printed, w, slots, bench, seen);
     let r = total_of_capture(slots, bench, seen);
-    let b = print_total(printed, a, r);
+    let b = print_total(rt, printed, a, r);
     Table {
         refused: is_refused(r),
         out: b,

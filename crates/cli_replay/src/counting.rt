@@ -6,7 +6,7 @@ use cli_io::counts::plus;
 use decode::gathering::size_of;
 
 // How many kind bytes were consumed, and how many bytes lie before the next one.
-#[derive(Drop)]
+#[derive(Clone, Copy)]
 pub struct Kinds {
     pub begun: u64,
     pub ahead: usize,

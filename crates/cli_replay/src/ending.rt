@@ -7,7 +7,13 @@ use describe_capture::fault_words::put_fault_line;
 use describe_capture::finding::{fault_byte, is_fault};
 
 // The line of what ended the replay early, among those of the answers.
-fn print_fault(printed: &mut [u8], w: Waiting, s: ReplaySession, quiet: bool) -> Waiting {
+fn print_fault(
+    rt: &HostRuntime,
+    printed: &mut [u8],
+    w: Waiting,
+    s: ReplaySession,
+    quiet: bool,
+) -> Waiting {
     let session = s.session;
     let fault = fault_of(s);
     if quiet | !is_fault(fault) {
@@ -19,10 +25,10 @@ fn print_fault(printed: &mut [u8], w: Waiting, s: ReplaySession, quiet: bool) ->
         fault_byte(session.offset, fault),
         fault,
     );
-    end_line(printed, w, end)
+    end_line(rt, printed, w, end)
 }
 
-fn print_end(printed: &mut [u8], w: Waiting, s: ReplaySession) -> Waiting {
+fn print_end(rt: &HostRuntime, printed: &mut [u8], w: Waiting, s: ReplaySession) -> Waiting {
     let session = s.session;
     let replay = s.replay;
     let end = put_replay_end(
@@ -35,11 +41,12 @@ fn print_end(printed: &mut [u8], w: Waiting, s: ReplaySession) -> Waiting {
         carried_of(s),
         replay.stamp_len,
     );
-    end_line(printed, w, end)
+    end_line(rt, printed, w, end)
 }
 
 // What ended it early, unless only the end is printed; number, bytes consumed, records and advances; and the state.
 pub fn print_replay_ending(
+    rt: &HostRuntime,
     printed: &mut [u8],
     w: Waiting,
     slots: usize,
@@ -48,7 +55,7 @@ pub fn print_replay_ending(
     quiet: bool,
 ) -> Waiting {
     let session = s.session;
-    let a = print_fault(&mut *printed, w, s, quiet);
-    let b = print_end(&mut *printed, a, s);
-    print_state(printed, b, slots, session, cells)
+    let a = print_fault(rt, &mut *printed, w, s, quiet);
+    let b = print_end(rt, &mut *printed, a, s);
+    print_state(rt, printed, b, slots, session, cells)
 }

@@ -16,7 +16,7 @@ use replay_state::stamps::stamp_in;
 use ticks::{Stamp, difference};
 
 // The bench, and how far the file is, as in a run; the replay's state; when it last made each slot Ready; and the kind bytes.
-#[derive(Drop)]
+#[derive(Clone, Copy)]
 pub struct ReplaySession {
     pub session: Session,
     pub replay: Replay,
@@ -48,6 +48,7 @@ pub fn carried_of(s: ReplaySession) -> usize
 }
 
 // Where the stamp starts that is taken next, or in part.
+#[tactic(auto, unfolding(crate::specs::Sessions::stamp_offset))]
 pub fn stamp_offset(s: ReplaySession) -> u64
     ensures { result ≡ stamp_offset s }
 {
@@ -57,6 +58,7 @@ pub fn stamp_offset(s: ReplaySession) -> u64
 }
 
 // Where the kind byte is of the record that is carried, or comes next.
+#[tactic(auto, unfolding(crate::specs::Sessions::kind_offset))]
 pub fn kind_offset(s: ReplaySession) -> u64
     ensures { result ≡ kind_offset s }
 {
@@ -69,6 +71,7 @@ pub fn kind_offset(s: ReplaySession) -> u64
 }
 
 // How many records have run, and how many advances.
+#[tactic(auto, unfolding(crate::specs::Sessions::records_run))]
 pub fn records_run(s: ReplaySession) -> u64
     ensures { result ≡ records_run s }
 {
@@ -79,6 +82,7 @@ pub fn records_run(s: ReplaySession) -> u64
     kinds.begun
 }
 
+#[tactic(auto, unfolding(crate::specs::Sessions::advances_run))]
 pub fn advances_run(s: ReplaySession) -> u64
     ensures { result ≡ advances_run s }
 {
@@ -87,6 +91,7 @@ pub fn advances_run(s: ReplaySession) -> u64
 }
 
 // Whether the next answer is that of an advance, before this stamp's record.
+#[tactic(auto, unfolding(crate::specs::Sessions::owes_advance))]
 pub fn owes_advance(s: ReplaySession, stamp: Stamp) -> bool
     ensures { result ≡ owes_advance s stamp }
 {
@@ -98,6 +103,7 @@ pub fn owes_advance(s: ReplaySession, stamp: Stamp) -> bool
 
 // ---- What is wrong at the end
 
+#[tactic(auto, unfolding(crate::specs::Sessions::fault_at_kind))]
 fn fault_at_kind(s: ReplaySession) -> CaptureFault
     ensures { result ≡ fault_at_kind s }
 {
@@ -110,6 +116,7 @@ fn fault_at_kind(s: ReplaySession) -> CaptureFault
 }
 
 // The stamp of what is in hand: of a record, or else the stamp itself.
+#[tactic(auto, unfolding(crate::specs::Sessions::stamp_in_hand))]
 fn stamp_in_hand(s: ReplaySession) -> Stamp
     ensures { result ≡ stamp_in_hand s }
 {
@@ -122,6 +129,7 @@ fn stamp_in_hand(s: ReplaySession) -> Stamp
     stamp_in(bytes)
 }
 
+#[tactic(auto, unfolding(crate::specs::Sessions::fault_at_end))]
 fn fault_at_end(s: ReplaySession) -> CaptureFault
     ensures { result ≡ fault_at_end s }
 {
@@ -140,6 +148,7 @@ fn fault_at_end(s: ReplaySession) -> CaptureFault
 }
 
 // What ended the replay early, if anything did: 31, 32 or 33 at a kind byte, or the end of the file.
+#[tactic(auto, unfolding(crate::specs::Sessions::fault_of))]
 pub fn fault_of(s: ReplaySession) -> CaptureFault
     ensures { result ≡ fault_of s }
 {

@@ -17,7 +17,7 @@ use replay_state::stamps::stamp_in;
 use times::Nanos;
 
 // What goes from turn to turn, beside what is lent; `entry` is the one that is replayed, as far as its bytes are read.
-#[derive(Drop)]
+#[derive(Clone, Copy)]
 pub struct ReplayTurn {
     pub goes_on: bool,
     pub state: ReplaySession,
@@ -49,7 +49,7 @@ pub fn first_replay_turn(state: ReplaySession) -> ReplayTurn
 
 // Up to where the piece is replayed next: up to the end of the entry, where each answer has its line, or else whole. An entry of which
 // bytes are left is replayed to its end first.
-fn with_next(t: ReplayTurn, input: &[u8], way: Way) -> ReplayTurn {
+fn with_next(t: ReplayTurn, input: &[u8], way: Way<'_>) -> ReplayTurn {
     let state = t.state;
     let mut flow = t.flow;
     let piece = flow.piece;
@@ -68,7 +68,7 @@ fn with_next(t: ReplayTurn, input: &[u8], way: Way) -> ReplayTurn {
 }
 
 // With room for one more answer.
-fn prepared(before: ReplayTurn, input: &[u8], answers: &[u8], way: Way) -> ReplayTurn {
+fn prepared(before: ReplayTurn, input: &[u8], answers: &[u8], way: Way<'_>) -> ReplayTurn {
     let t = with_next(before, input, way);
     let state = t.state;
     let flow = t.flow;
@@ -129,7 +129,13 @@ fn put_call(
 }
 
 // The lines that wait after a call.
-fn with_line(t: ReplayTurn, after: Session, printed: &mut [u8], answers: &[u8]) -> Waiting {
+fn with_line(
+    rt: &HostRuntime,
+    t: ReplayTurn,
+    after: Session,
+    printed: &mut [u8],
+    answers: &[u8],
+) -> Waiting {
     let before = t.state;
     let flow = t.flow;
     let entry = t.entry;
@@ -144,7 +150,7 @@ fn with_line(t: ReplayTurn, after: Session, printed: &mut [u8], answers: &[u8]) 
         entry,
         &answers[k..],
     );
-    end_line(printed, waits, end)
+    end_line(rt, printed, waits, end)
 }
 
 // The entry in hand after a call: none, where its record has run.
@@ -158,17 +164,18 @@ fn entry_after(entry: Entry, number: u8) -> Entry {
 
 // The turn after a call: its answer has a line, unless only the end is printed.
 fn concluded(
+    rt: &HostRuntime,
     t: ReplayTurn,
     after: ReplaySession,
     printed: &mut [u8],
     answers: &[u8],
-    way: Way,
+    way: Way<'_>,
 ) -> ReplayTurn {
     let session = after.session;
     let entry = t.entry;
     let flow = t.flow;
     if !way.quiet & (session.written > 0) {
-        let shown = with_lines(flow, with_line(t, session, printed, answers));
+        let shown = with_lines(flow, with_line(rt, t, session, printed, answers));
         return turned(
             after,
             after_call(shown, session.consumed, session.written),
@@ -291,6 +298,7 @@ fn replay_with_room(
 
 // Replays from the piece that was read.
 fn replay_bytes(
+    rt: &HostRuntime,
     setup: Setup,
     before: ReplayTurn,
     live: &mut [u32],
@@ -299,7 +307,7 @@ fn replay_bytes(
     input: &[u8],
     printed: &mut [u8],
     answers: &mut [u8],
-    way: Way,
+    way: Way<'_>,
 ) -> ReplayTurn {
     let t = prepared(before, input, answers, way);
     let state = t.state;
@@ -319,7 +327,7 @@ fn replay_bytes(
         &mut answers[k..],
         way.quiet,
     );
-    concluded(t, after, printed, answers, way)
+    concluded(rt, t, after, printed, answers, way)
 }
 
 // The end of the file.
@@ -330,7 +338,13 @@ fn finished(t: ReplayTurn) -> ReplayTurn {
 }
 
 // Without replaying: the next piece is read, or the capture is at its end.
-fn read_or_finish(t: ReplayTurn, input: &mut [u8], printed: &[u8], way: Way) -> ReplayTurn {
+fn read_or_finish(
+    rt: &HostRuntime,
+    t: ReplayTurn,
+    input: &mut [u8],
+    printed: &[u8],
+    way: Way<'_>,
+) -> ReplayTurn {
     let state = t.state;
     let session = state.session;
     let flow = t.flow;
@@ -339,11 +353,12 @@ fn read_or_finish(t: ReplayTurn, input: &mut [u8], printed: &[u8], way: Way) -> 
     if piece.ended {
         return finished(t);
     }
-    let next = read_on(flow, session.offset, input, printed, way);
+    let next = read_on(rt, flow, session.offset, input, printed, way);
     turned(state, next, entry)
 }
 
 fn replay_turn(
+    rt: &HostRuntime,
     setup: Setup,
     t: ReplayTurn,
     live: &mut [u32],
@@ -352,19 +367,20 @@ fn replay_turn(
     input: &mut [u8],
     printed: &mut [u8],
     answers: &mut [u8],
-    way: Way,
+    way: Way<'_>,
 ) -> ReplayTurn {
     let flow = t.flow;
     if has_bytes(flow) {
         return replay_bytes(
-            setup, t, live, defaults, cells, input, printed, answers, way,
+            rt, setup, t, live, defaults, cells, input, printed, answers, way,
         );
     }
-    read_or_finish(t, input, printed, way)
+    read_or_finish(rt, t, input, printed, way)
 }
 
 // A proved loop has to end, and nothing says that a file does: it counts its turns down from a number that no replay uses up.
 pub fn replay_all(
+    rt: &HostRuntime,
     setup: Setup,
     first: ReplayTurn,
     live: &mut [u32],
@@ -373,12 +389,13 @@ pub fn replay_all(
     input: &mut [u8],
     printed: &mut [u8],
     answers: &mut [u8],
-    way: Way,
+    way: Way<'_>,
 ) -> ReplayTurn {
     let mut t = first;
     let mut turns = u64::MAX;
     while turns > 0 && t.goes_on {
         t = replay_turn(
+            rt,
             setup,
             t,
             &mut *live,

@@ -8,7 +8,7 @@ use describe_trace::trace_words::put_end;
 use readiness::{Control, Dev, Status};
 use text_line::text::put_text;
 
-fn print_end(printed: &mut [u8], w: Waiting, s: Session) -> Waiting {
+fn print_end(rt: &HostRuntime, printed: &mut [u8], w: Waiting, s: Session) -> Waiting {
     let port = s.port;
     let end = put_end(
         &mut *printed,
@@ -18,37 +18,51 @@ fn print_end(printed: &mut [u8], w: Waiting, s: Session) -> Waiting {
         s.records,
         port.carried_len,
     );
-    end_line(printed, w, end)
+    end_line(rt, printed, w, end)
 }
 
-fn print_link(printed: &mut [u8], w: Waiting, dev: Dev) -> Waiting {
+fn print_link(rt: &HostRuntime, printed: &mut [u8], w: Waiting, dev: Dev) -> Waiting {
     let end = put_link(&mut *printed, w.count, dev);
-    end_line(printed, w, end)
+    end_line(rt, printed, w, end)
 }
 
-fn print_port_bits(printed: &mut [u8], w: Waiting, dev: Dev) -> Waiting {
+fn print_port_bits(rt: &HostRuntime, printed: &mut [u8], w: Waiting, dev: Dev) -> Waiting {
     let end = put_port_bits(&mut *printed, w.count, dev);
-    end_line(printed, w, end)
+    end_line(rt, printed, w, end)
 }
 
-fn print_control(printed: &mut [u8], w: Waiting, control: Control) -> Waiting {
+fn print_control(rt: &HostRuntime, printed: &mut [u8], w: Waiting, control: Control) -> Waiting {
     let end = put_port_control(&mut *printed, w.count, control);
-    end_line(printed, w, end)
+    end_line(rt, printed, w, end)
 }
 
-fn print_depth(printed: &mut [u8], w: Waiting, depth: usize, most: usize) -> Waiting {
+fn print_depth(
+    rt: &HostRuntime,
+    printed: &mut [u8],
+    w: Waiting,
+    depth: usize,
+    most: usize,
+) -> Waiting {
     let end = put_queue(&mut *printed, w.count, depth, most);
-    end_line(printed, w, end)
+    end_line(rt, printed, w, end)
 }
 
-fn print_message(printed: &mut [u8], w: Waiting, cells: &[u32], start: usize, i: usize) -> Waiting {
+fn print_message(
+    rt: &HostRuntime,
+    printed: &mut [u8],
+    w: Waiting,
+    cells: &[u32],
+    start: usize,
+    i: usize,
+) -> Waiting {
     let a = put_text(&mut *printed, w.count, b"  ");
     let end = put_queued(&mut *printed, a, cells, start, i);
-    end_line(printed, w, end)
+    end_line(rt, printed, w, end)
 }
 
 // The messages, oldest first.
 fn print_messages(
+    rt: &HostRuntime,
     printed: &mut [u8],
     first: Waiting,
     cells: &[u32],
@@ -58,20 +72,27 @@ fn print_messages(
     let mut w = first;
     let mut i: usize = 0;
     while i < depth {
-        w = print_message(&mut *printed, w, cells, start, i);
+        w = print_message(rt, &mut *printed, w, cells, start, i);
         i += 1;
     }
     w
 }
 
-fn print_queue(printed: &mut [u8], w: Waiting, dev: Dev, cells: &[u32]) -> Waiting {
+fn print_queue(
+    rt: &HostRuntime,
+    printed: &mut [u8],
+    w: Waiting,
+    dev: Dev,
+    cells: &[u32],
+) -> Waiting {
     let queue = dev.queue;
-    let a = print_depth(&mut *printed, w, queue.depth, cells.len());
-    print_messages(printed, a, cells, queue.start, queue.depth)
+    let a = print_depth(rt, &mut *printed, w, queue.depth, cells.len());
+    print_messages(rt, printed, a, cells, queue.start, queue.depth)
 }
 
 // One of the card's slots.
 fn print_slot(
+    rt: &HostRuntime,
     printed: &mut [u8],
     w: Waiting,
     slots: usize,
@@ -83,10 +104,11 @@ fn print_slot(
     }
     let phase = status.phase;
     let end = put_slot(&mut *printed, w.count, slot, phase);
-    end_line(printed, w, end)
+    end_line(rt, printed, w, end)
 }
 
 fn print_slots(
+    rt: &HostRuntime,
     printed: &mut [u8],
     first: Waiting,
     slots: usize,
@@ -96,21 +118,22 @@ fn print_slots(
     let mut i: usize = 0;
     while i < 32 {
         let status = statuses[i];
-        w = print_slot(&mut *printed, w, slots, i, status);
+        w = print_slot(rt, &mut *printed, w, slots, i, status);
         i += 1;
     }
     w
 }
 
-fn print_port(printed: &mut [u8], w: Waiting, dev: Dev) -> Waiting {
+fn print_port(rt: &HostRuntime, printed: &mut [u8], w: Waiting, dev: Dev) -> Waiting {
     let control = dev.control;
-    let a = print_link(&mut *printed, w, dev);
-    let b = print_port_bits(&mut *printed, a, dev);
-    print_control(printed, b, control)
+    let a = print_link(rt, &mut *printed, w, dev);
+    let b = print_port_bits(rt, &mut *printed, a, dev);
+    print_control(rt, printed, b, control)
 }
 
 // The state of the bench: clock and link; port bits; queue; slots.
 pub fn print_state(
+    rt: &HostRuntime,
     printed: &mut [u8],
     w: Waiting,
     slots: usize,
@@ -120,19 +143,20 @@ pub fn print_state(
     let port = s.port;
     let dev = port.dev;
     let statuses = s.statuses;
-    let a = print_port(&mut *printed, w, dev);
-    let b = print_queue(&mut *printed, a, dev, cells);
-    print_slots(printed, b, slots, statuses)
+    let a = print_port(rt, &mut *printed, w, dev);
+    let b = print_queue(rt, &mut *printed, a, dev, cells);
+    print_slots(rt, printed, b, slots, statuses)
 }
 
 // Number, bytes consumed and records; and the state.
 pub fn print_ending(
+    rt: &HostRuntime,
     printed: &mut [u8],
     w: Waiting,
     slots: usize,
     s: Session,
     cells: &[u32],
 ) -> Waiting {
-    let a = print_end(&mut *printed, w, s);
-    print_state(printed, a, slots, s, cells)
+    let a = print_end(rt, &mut *printed, w, s);
+    print_state(rt, printed, a, slots, s, cells)
 }

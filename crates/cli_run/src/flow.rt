@@ -1,23 +1,26 @@
 // What flows while a file is fed: pieces that are read, and lines and answers that wait to be written.
 ghost use Rattle.std.specs.Prelude.{◌≡◌, false, ◌+◌, min, ltb, pos};
 
+use bits::at_most;
 use cli_io::files::complain;
-use cli_io::printing::{Waiting, flush_out, make_room, nothing_waits};
+use cli_io::printing::{Sink, Waiting, flush_out, make_room, nothing_waits};
 use cli_io::trace_file::{PIECE, Piece, nothing_read, passed, read_piece};
+use std::fs::File;
+use text_line::text::{put_named, put_text};
 
-// Where the file comes from and where the answers go (-1: nowhere), whether only the end is printed, and whether standard error shows
+// Where the file comes from and where the answers go, whether only the end is printed, and whether standard error shows
 // how far it is.
-#[derive(Drop)]
-pub struct Way {
-    pub input: i32,
-    pub answers: i32,
+#[derive(Clone, Copy)]
+pub struct Way<'a> {
+    pub input: &'a File,
+    pub answers: Sink<'a>,
     pub quiet: bool,
     pub progress: bool,
 }
 
 // What was read and not yet fed, and up to where it is fed next; the lines and answers that wait to be written; and whether everything
 // could be read and written so far.
-#[derive(Drop)]
+#[derive(Clone, Copy)]
 pub struct Flow {
     pub piece: Piece,
     pub stop: usize,
@@ -61,33 +64,45 @@ pub fn has_bytes(flow: Flow) -> bool
 // On a terminal, every 16 MB show it.
 const STRIDE: u64 = 16777216;
 
-fn show_progress(way: Way, offset: u64) {
+fn complain_progress(rt: &HostRuntime, megabytes: u64) {
+    let mut line = [0u8; 32];
+    let a = put_named(&mut line, 0, b"\r", megabytes);
+    let b = at_most(put_text(&mut line, a, b" MB"), 32);
+    complain(rt, &line[..b]);
+}
+
+fn show_progress(rt: &HostRuntime, way: Way<'_>, offset: u64) {
     if way.progress {
         if (offset > 0) & (offset % STRIDE < 65536) {
-            complain(b"\r");
-            io::print_decimal(libc::STDERR_FILENO, offset / 1048576);
-            complain(b" MB");
+            complain_progress(rt, offset / 1048576);
         }
     }
 }
 
 // The line of the progress ends.
-pub fn end_progress(way: Way, offset: u64) {
+pub fn end_progress(rt: &HostRuntime, way: Way<'_>, offset: u64) {
     if way.progress & (offset >= STRIDE) {
-        complain(b"\n");
+        complain(rt, b"\n");
     }
 }
 
 // ---- Pieces, lines and answers
 
 // The next piece is read, `offset` bytes after the first; the lines that wait are written before.
-pub fn read_on(before: Flow, offset: u64, input: &mut [u8], printed: &[u8], way: Way) -> Flow
+pub fn read_on(
+    rt: &HostRuntime,
+    before: Flow,
+    offset: u64,
+    input: &mut [u8],
+    printed: &[u8],
+    way: Way<'_>,
+) -> Flow
     ensures { result.stop ≡ 0 }
 {
     let mut flow = before;
     let waits = flow.out;
-    show_progress(way, offset);
-    let out = flush_out(printed, waits);
+    show_progress(rt, way, offset);
+    let out = flush_out(rt, printed, waits);
     let piece = read_piece(way.input, input);
     flow.is_whole = flow.is_whole & (out.error == 0) & (piece.error == 0);
     flow.out = out;
@@ -97,7 +112,7 @@ pub fn read_on(before: Flow, offset: u64, input: &mut [u8], printed: &[u8], way:
 }
 
 // Room for one more answer is made.
-pub fn with_room(before: Flow, answers: &[u8], way: Way) -> Flow
+pub fn with_room(before: Flow, answers: &[u8], way: Way<'_>) -> Flow
     ensures { result.stop ≡ before.stop }
 {
     let mut flow = before;

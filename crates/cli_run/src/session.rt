@@ -12,7 +12,7 @@ use set_up::SetUp;
 
 // The bench, and how far the trace is: whether there is more to feed, the last call's number and counts, the byte that it stopped
 // at, and all bytes consumed and records run.
-#[derive(Drop)]
+#[derive(Clone, Copy)]
 pub struct Session {
     pub goes_on: bool,
     pub number: u8,

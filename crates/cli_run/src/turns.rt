@@ -11,7 +11,7 @@ use describe_trace::trace_words::{put_incomplete, put_run, put_unknown};
 use readiness::Setup;
 
 // What goes from turn to turn, beside what is lent; `held` is the record that is fed, as far as its bytes are read.
-#[derive(Drop)]
+#[derive(Clone, Copy)]
 pub struct Turn {
     pub goes_on: bool,
     pub session: Session,
@@ -41,7 +41,7 @@ pub fn first_turn(session: Session) -> Turn
 // ---- Before a call
 
 // Up to where the piece is fed next: up to the end of the next record, where each has its line, or else whole.
-fn with_next(t: Turn, input: &[u8], way: Way) -> Turn {
+fn with_next(t: Turn, input: &[u8], way: Way<'_>) -> Turn {
     let session = t.session;
     let mut flow = t.flow;
     let piece = flow.piece;
@@ -57,7 +57,7 @@ fn with_next(t: Turn, input: &[u8], way: Way) -> Turn {
 }
 
 // With room for one more answer.
-fn prepared(before: Turn, input: &[u8], answers: &[u8], way: Way) -> Turn {
+fn prepared(before: Turn, input: &[u8], answers: &[u8], way: Way<'_>) -> Turn {
     let t = with_next(before, input, way);
     let session = t.session;
     let flow = t.flow;
@@ -89,7 +89,13 @@ fn put_call(
 }
 
 // The lines that wait after a call.
-fn with_line(t: Turn, after: Session, printed: &mut [u8], answers: &[u8]) -> Waiting {
+fn with_line(
+    rt: &HostRuntime,
+    t: Turn,
+    after: Session,
+    printed: &mut [u8],
+    answers: &[u8],
+) -> Waiting {
     let before = t.session;
     let flow = t.flow;
     let held = t.held;
@@ -104,15 +110,21 @@ fn with_line(t: Turn, after: Session, printed: &mut [u8], answers: &[u8]) -> Wai
         held,
         &answers[k..],
     );
-    end_line(printed, waits, end)
+    end_line(rt, printed, waits, end)
 }
 
 // The turn after a call: where a whole record was fed, or a byte that is no kind, its line is printed.
-fn concluded(t: Turn, after: Session, printed: &mut [u8], answers: &[u8]) -> Turn {
+fn concluded(
+    rt: &HostRuntime,
+    t: Turn,
+    after: Session,
+    printed: &mut [u8],
+    answers: &[u8],
+) -> Turn {
     let held = t.held;
     let flow = t.flow;
     if is_full(held) {
-        let shown = with_lines(flow, with_line(t, after, printed, answers));
+        let shown = with_lines(flow, with_line(rt, t, after, printed, answers));
         return turned(
             after,
             after_call(shown, after.consumed, after.written),
@@ -173,6 +185,7 @@ fn feed_part(
 
 // Feeds from the piece that was read.
 fn run_bytes(
+    rt: &HostRuntime,
     setup: Setup,
     before: Turn,
     live: &mut [u32],
@@ -181,7 +194,7 @@ fn run_bytes(
     input: &[u8],
     printed: &mut [u8],
     answers: &mut [u8],
-    way: Way,
+    way: Way<'_>,
 ) -> Turn {
     let t = prepared(before, input, answers, way);
     let session = t.session;
@@ -200,7 +213,7 @@ fn run_bytes(
         flow.stop,
         &mut answers[k..],
     );
-    concluded(t, after, printed, answers)
+    concluded(rt, t, after, printed, answers)
 }
 
 // The line of the record that the file's end cuts off.
@@ -218,42 +231,55 @@ fn put_rest(printed: &mut [u8], at: usize, s: Session) -> usize {
     )
 }
 
-fn print_rest(s: Session, w: Waiting, printed: &mut [u8], quiet: bool) -> Waiting {
+fn print_rest(
+    rt: &HostRuntime,
+    s: Session,
+    w: Waiting,
+    printed: &mut [u8],
+    quiet: bool,
+) -> Waiting {
     let port = s.port;
     if quiet | (port.carried_len == 0) {
         return w;
     }
     let end = put_rest(&mut *printed, w.count, s);
-    end_line(printed, w, end)
+    end_line(rt, printed, w, end)
 }
 
 // The end of the file, perhaps within a record, which the bench carries.
-fn finished(t: Turn, printed: &mut [u8], way: Way) -> Turn {
+fn finished(rt: &HostRuntime, t: Turn, printed: &mut [u8], way: Way<'_>) -> Turn {
     let mut session = t.session;
     let flow = t.flow;
     let held = t.held;
     let waits = flow.out;
     let piece = flow.piece;
     let quiet = way.quiet | (piece.error != 0);
-    let out = print_rest(session, waits, printed, quiet);
+    let out = print_rest(rt, session, waits, printed, quiet);
     session.goes_on = false;
     turned(session, with_lines(flow, out), held)
 }
 
 // Without feeding: the next piece is read, or the trace is at its end.
-fn read_or_finish(t: Turn, input: &mut [u8], printed: &mut [u8], way: Way) -> Turn {
+fn read_or_finish(
+    rt: &HostRuntime,
+    t: Turn,
+    input: &mut [u8],
+    printed: &mut [u8],
+    way: Way<'_>,
+) -> Turn {
     let session = t.session;
     let flow = t.flow;
     let held = t.held;
     let piece = flow.piece;
     if piece.ended {
-        return finished(t, printed, way);
+        return finished(rt, t, printed, way);
     }
-    let next = read_on(flow, session.offset, input, printed, way);
+    let next = read_on(rt, flow, session.offset, input, printed, way);
     turned(session, next, held)
 }
 
 fn run_turn(
+    rt: &HostRuntime,
     setup: Setup,
     t: Turn,
     live: &mut [u32],
@@ -262,19 +288,20 @@ fn run_turn(
     input: &mut [u8],
     printed: &mut [u8],
     answers: &mut [u8],
-    way: Way,
+    way: Way<'_>,
 ) -> Turn {
     let flow = t.flow;
     if has_bytes(flow) {
         return run_bytes(
-            setup, t, live, defaults, cells, input, printed, answers, way,
+            rt, setup, t, live, defaults, cells, input, printed, answers, way,
         );
     }
-    read_or_finish(t, input, printed, way)
+    read_or_finish(rt, t, input, printed, way)
 }
 
 // A proved loop has to end, and nothing says that a file does: it counts its turns down from a number that no run uses up.
 pub fn run_all(
+    rt: &HostRuntime,
     setup: Setup,
     first: Turn,
     live: &mut [u32],
@@ -283,12 +310,13 @@ pub fn run_all(
     input: &mut [u8],
     printed: &mut [u8],
     answers: &mut [u8],
-    way: Way,
+    way: Way<'_>,
 ) -> Turn {
     let mut t = first;
     let mut turns = u64::MAX;
     while turns > 0 && t.goes_on {
         t = run_turn(
+            rt,
             setup,
             t,
             &mut *live,

@@ -1,4 +1,6 @@
 // The commands that need no card.
+#![tactic(auto)]
+
 pub mod show; // `otsnebura show`
 pub mod show_capture; // `otsnebura show --capture`
 pub mod pack; // `otsnebura pack`

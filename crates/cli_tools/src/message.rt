@@ -2,6 +2,7 @@
 use bits::{at_most, byte_at, u64_of_u8, u64_of_usize};
 use cli_arguments::arguments::{arg_count, arg_is, bad_usage};
 use cli_arguments::outcome::{Outcome, unless_error};
+use cli_io::args::arg;
 use cli_io::files::{after_printing, complain_line};
 use cli_io::printing::{end_line, flush_out, nothing_waits};
 use describe_records::record_words::put_message;
@@ -10,35 +11,41 @@ use text_hex::Packed;
 use text_line::text::{LINE, put_byte, put_bytes, put_hex2, put_named, put_text};
 
 // Prints the line whose end is at `end`; 0, or the error.
-fn print_line(line: &mut [u8], end: usize) -> i32 {
-    let longer = end_line(&mut *line, nothing_waits(), end);
-    let out = flush_out(line, longer);
-    after_printing(out.error)
+fn print_line(rt: &HostRuntime, line: &mut [u8], end: usize) -> i32 {
+    let longer = end_line(rt, &mut *line, nothing_waits(), end);
+    let out = flush_out(rt, line, longer);
+    after_printing(rt, out.error)
 }
 
 // ---- Hex text among the arguments
 
 // The argument and a blank after it are put into the text.
-fn put_argument(text: &mut [u8], at: usize, i: usize) -> usize {
-    let mut arg = [0u8; 256];
-    let n = os::arg(i, &mut arg);
-    let next = put_text(&mut *text, at, &arg[..n]);
+fn put_argument(rt: &HostRuntime, text: &mut [u8], at: usize, i: usize) -> usize {
+    let mut given = [0u8; 256];
+    let n = arg(rt, i, &mut given);
+    let next = put_text(&mut *text, at, &given[..n]);
     put_byte(text, next, 0x20)
 }
 
-fn put_argument_if_any(text: &mut [u8], at: usize, i: usize, count: usize) -> usize {
+fn put_argument_if_any(
+    rt: &HostRuntime,
+    text: &mut [u8],
+    at: usize,
+    i: usize,
+    count: usize,
+) -> usize {
     if i < count {
-        return put_argument(text, at, i);
+        return put_argument(rt, text, at, i);
     }
     at
 }
 
 // The arguments from 3 on, at most 32.
-fn put_arguments(text: &mut [u8], count: usize) -> usize {
+fn put_arguments(rt: &HostRuntime, text: &mut [u8], count: usize) -> usize {
     let mut at: usize = 0;
     let mut i: usize = 3;
     while i < 35 {
-        at = put_argument_if_any(&mut *text, at, i, count);
+        at = put_argument_if_any(rt, &mut *text, at, i, count);
         i += 1;
     }
     at
@@ -54,9 +61,9 @@ fn whole_count(packed: Packed, characters: usize) -> usize {
 }
 
 // How many bytes the hex text of the arguments from 3 on has, put into the room; a number above 65535 where it is no such text.
-fn bytes_given(room: &mut [u8]) -> usize {
+fn bytes_given(rt: &HostRuntime, room: &mut [u8]) -> usize {
     let mut text = [0u8; 1024];
-    let n = put_arguments(&mut text, arg_count());
+    let n = put_arguments(rt, &mut text, arg_count(rt));
     let m = at_most(n, text.len());
     let packed = text_hex::pack(text_hex::start(), &text[0..m], room);
     whole_count(packed, m)
@@ -109,11 +116,11 @@ fn put_message_fault(line: &mut [u8], at: usize, bytes: &[u8]) -> usize {
     put_later_fault(line, at, bytes)
 }
 
-fn complain_message(bytes: &[u8]) -> Outcome {
+fn complain_message(rt: &HostRuntime, bytes: &[u8]) -> Outcome {
     let mut line = [0u8; LINE];
     let a = put_text(&mut line, 0, b"no readiness message (19): ");
     let b = put_message_fault(&mut line, a, bytes);
-    complain_line(&line, b);
+    complain_line(rt, &line, b);
     Outcome::Refused
 }
 
@@ -126,38 +133,38 @@ fn is_readiness(message: Message) -> bool {
 }
 
 // The message in words, or why it is none.
-fn tell_message(bytes: &[u8]) -> Outcome {
+fn tell_message(rt: &HostRuntime, bytes: &[u8]) -> Outcome {
     let message = messages::read(bytes);
     if is_readiness(message) {
         let mut line = [0u8; LINE];
         let n = put_message(&mut line, 0, message);
-        return unless_error(print_line(&mut line, n), Outcome::Done);
+        return unless_error(print_line(rt, &mut line, n), Outcome::Done);
     }
-    complain_message(bytes)
+    complain_message(rt, bytes)
 }
 
 // The message that the first n bytes are.
-fn tell_first(bytes: &[u8], n: usize) -> Outcome {
+fn tell_first(rt: &HostRuntime, bytes: &[u8], n: usize) -> Outcome {
     let m = at_most(n, bytes.len());
-    tell_message(&bytes[0..m])
+    tell_message(rt, &bytes[0..m])
 }
 
-fn read_message() -> Outcome {
+fn read_message(rt: &HostRuntime) -> Outcome {
     let mut bytes = [0u8; 512];
-    let n = bytes_given(&mut bytes);
+    let n = bytes_given(rt, &mut bytes);
     if n > 512 {
-        return bad_usage(b"message read wants hex digits, two to a byte");
+        return bad_usage(rt, b"message read wants hex digits, two to a byte");
     }
-    tell_first(&bytes, n)
+    tell_first(rt, &bytes, n)
 }
 
 // ---- Writing
 
 // The ID in argument 3, four hex digits; above FFFFh where it is none.
-fn id_of() -> u64 {
+fn id_of(rt: &HostRuntime) -> u64 {
     let mut text = [0u8; 4];
     let mut bytes = [0u8; 4];
-    let n = os::arg(3, &mut text);
+    let n = arg(rt, 3, &mut text);
     let packed = text_hex::pack(text_hex::start(), &text[..n], &mut bytes);
     if whole_count(packed, n) == 2 {
         return u64_of_u8(byte_at(&bytes, 0)) * 256 + u64_of_u8(byte_at(&bytes, 1));
@@ -166,44 +173,44 @@ fn id_of() -> u64 {
 }
 
 // The reason in argument 4, one hex digit, or NO_DIGIT.
-fn reason_of() -> u8 {
+fn reason_of(rt: &HostRuntime) -> u8 {
     let mut digit = [0u8; 1];
-    let n = os::arg(4, &mut digit);
+    let n = arg(rt, 4, &mut digit);
     if n == 1 {
         return text_fields::digit_of(true, byte_at(&digit, 0));
     }
     text_fields::NO_DIGIT
 }
 
-fn print_bytes(bytes: &[u8]) -> Outcome {
+fn print_bytes(rt: &HostRuntime, bytes: &[u8]) -> Outcome {
     let mut line = [0u8; LINE];
     let n = put_bytes(&mut line, 0, bytes);
-    unless_error(print_line(&mut line, n), Outcome::Done)
+    unless_error(print_line(rt, &mut line, n), Outcome::Done)
 }
 
-fn write_message(kind: u8, reason: u8) -> Outcome {
-    let id = id_of();
+fn write_message(rt: &HostRuntime, kind: u8, reason: u8) -> Outcome {
+    let id = id_of(rt);
     if id > 65535 {
-        return bad_usage(b"message wants a requester ID of four hex digits");
+        return bad_usage(rt, b"message wants a requester ID of four hex digits");
     }
     let mut bytes = [0u8; 16];
     let no = messages::write(kind, (id % 65536) as u16, reason, &mut bytes);
     if no != 0 {
-        return bad_usage(b"message wants a reason of one hex digit");
+        return bad_usage(rt, b"message wants a reason of one hex digit");
     }
-    print_bytes(&bytes)
+    print_bytes(rt, &bytes)
 }
 
-pub fn message_command() -> Outcome {
-    let n = arg_count();
-    if (n >= 4) & (n <= 35) & arg_is(2, b"read") {
-        return read_message();
+pub fn message_command(rt: &HostRuntime) -> Outcome {
+    let n = arg_count(rt);
+    if (n >= 4) & (n <= 35) & arg_is(rt, 2, b"read") {
+        return read_message(rt);
     }
-    if (n == 4) & arg_is(2, b"drs") {
-        return write_message(messages::DRS, 0);
+    if (n == 4) & arg_is(rt, 2, b"drs") {
+        return write_message(rt, messages::DRS, 0);
     }
-    if (n == 5) & arg_is(2, b"frs") {
-        return write_message(messages::FRS, reason_of());
+    if (n == 5) & arg_is(rt, 2, b"frs") {
+        return write_message(rt, messages::FRS, reason_of(rt));
     }
-    bad_usage(b"message wants read HEX, drs ID, or frs ID REASON")
+    bad_usage(rt, b"message wants read HEX, drs ID, or frs ID REASON")
 }

@@ -9,9 +9,10 @@ use cli_io::trace_file::{
     take,
 };
 use describe_trace::trace_words::{put_incomplete, put_shown, put_totals, put_unknown};
+use std::fs::File;
 
 // How far the reading is: bytes and records shown, what was read, and what waits to be written.
-#[derive(Drop)]
+#[derive(Clone, Copy)]
 pub struct Showing {
     pub goes_on: bool,
     pub offset: u64,
@@ -33,11 +34,17 @@ fn nothing_shown() -> Showing {
 }
 
 // The next piece is read; what waits is written before.
-fn read_next(fd: i32, s: Showing, input: &mut [u8], printed: &[u8]) -> Showing {
+fn read_next(
+    rt: &HostRuntime,
+    file: &File,
+    s: Showing,
+    input: &mut [u8],
+    printed: &[u8],
+) -> Showing {
     let held = s.held;
     let waits = s.out;
-    let out = flush_out(printed, waits);
-    let piece = read_piece(fd, input);
+    let out = flush_out(rt, printed, waits);
+    let piece = read_piece(file, input);
     Showing {
         goes_on: out.error == 0,
         offset: s.offset,
@@ -60,15 +67,21 @@ fn put_held(printed: &mut [u8], at: usize, offset: u64, held: Held) -> usize {
     put_shown(printed, at, offset, decode::decoding::decode(bytes))
 }
 
-fn print_held(s: Showing, held: Held, printed: &mut [u8]) -> Waiting {
+fn print_held(rt: &HostRuntime, s: Showing, held: Held, printed: &mut [u8]) -> Waiting {
     let waits = s.out;
     let end = put_held(&mut *printed, waits.count, s.offset, held);
-    end_line(printed, waits, end)
+    end_line(rt, printed, waits, end)
 }
 
 // A record, or a byte that is no kind, which ends the showing.
-fn show_full(s: Showing, held: Held, piece: Piece, printed: &mut [u8]) -> Showing {
-    let out = print_held(s, held, printed);
+fn show_full(
+    rt: &HostRuntime,
+    s: Showing,
+    held: Held,
+    piece: Piece,
+    printed: &mut [u8],
+) -> Showing {
+    let out = print_held(rt, s, held, printed);
     if held.size == 0 {
         return Showing {
             goes_on: false,
@@ -90,7 +103,7 @@ fn show_full(s: Showing, held: Held, piece: Piece, printed: &mut [u8]) -> Showin
 }
 
 // What the piece has of the next record.
-fn show_next(s: Showing, input: &[u8], printed: &mut [u8]) -> Showing {
+fn show_next(rt: &HostRuntime, s: Showing, input: &[u8], printed: &mut [u8]) -> Showing {
     let before = s.piece;
     let first = s.held;
     let took = take(first, input, before.from, before.to);
@@ -98,7 +111,7 @@ fn show_next(s: Showing, input: &[u8], printed: &mut [u8]) -> Showing {
     let mut piece = before;
     piece.from = took.from;
     if is_full(held) {
-        return show_full(s, held, piece, printed);
+        return show_full(rt, s, held, piece, printed);
     }
     let out = s.out;
     Showing {
@@ -112,60 +125,66 @@ fn show_next(s: Showing, input: &[u8], printed: &mut [u8]) -> Showing {
 }
 
 // The end of the file, perhaps within a record.
-fn show_rest(s: Showing, printed: &mut [u8]) -> Showing {
+fn show_rest(rt: &HostRuntime, s: Showing, printed: &mut [u8]) -> Showing {
     let piece = s.piece;
     let held = s.held;
     let mut end = s;
     end.goes_on = false;
     if (held.count > 0) & (piece.error == 0) {
-        let out = print_held(s, held, printed);
+        let out = print_held(rt, s, held, printed);
         end.out = out;
         return end;
     }
     end
 }
 
-fn show_turn(fd: i32, s: Showing, input: &mut [u8], printed: &mut [u8]) -> Showing {
+fn show_turn(
+    rt: &HostRuntime,
+    file: &File,
+    s: Showing,
+    input: &mut [u8],
+    printed: &mut [u8],
+) -> Showing {
     let piece = s.piece;
     if piece.from < piece.to {
-        return show_next(s, input, printed);
+        return show_next(rt, s, input, printed);
     }
     if piece.ended {
-        return show_rest(s, printed);
+        return show_rest(rt, s, printed);
     }
-    read_next(fd, s, input, printed)
+    read_next(rt, file, s, input, printed)
 }
 
 // A proved loop has to end, and nothing says that a file does: it counts its turns down from a number that no run uses up.
-fn show_all(fd: i32, input: &mut [u8], printed: &mut [u8]) -> Showing {
+fn show_all(rt: &HostRuntime, file: &File, input: &mut [u8], printed: &mut [u8]) -> Showing {
     let mut s = nothing_shown();
     let mut turns = u64::MAX;
     while turns > 0 && s.goes_on {
-        s = show_turn(fd, s, &mut *input, &mut *printed);
+        s = show_turn(rt, file, s, &mut *input, &mut *printed);
         turns -= 1;
     }
     s
 }
 
 // The last line, and all that waits is written: the error of that, 0 where there is none.
-fn print_totals(s: Showing, printed: &mut [u8]) -> i32 {
+fn print_totals(rt: &HostRuntime, s: Showing, printed: &mut [u8]) -> i32 {
     let waits = s.out;
     let end = put_totals(&mut *printed, waits.count, s.records, s.offset);
-    let longer = end_line(&mut *printed, waits, end);
-    let out = flush_out(printed, longer);
-    after_printing(out.error)
+    let longer = end_line(rt, &mut *printed, waits, end);
+    let out = flush_out(rt, printed, longer);
+    after_printing(rt, out.error)
 }
 
 // How it ended; argument i names the file.
-fn close_showing(i: usize, s: Showing, printed: &mut [u8]) -> Outcome {
+fn close_showing(rt: &HostRuntime, i: usize, s: Showing, printed: &mut [u8]) -> Outcome {
     let piece = s.piece;
     let held = s.held;
-    let error = print_totals(s, printed);
+    let error = print_totals(rt, s, printed);
     if piece.error != 0 {
-        complain_read(i, plus(s.offset, u64_of_usize(held.count)), piece.error);
+        complain_read(rt, i, plus(s.offset, u64_of_usize(held.count)), piece.error);
         return Outcome::Unusable;
     }
-    complain_fault(i, s.offset, fault_in(held));
+    complain_fault(rt, i, s.offset, fault_in(held));
     if held.count > 0 {
         return unless_error(error, Outcome::Refused);
     }
@@ -173,9 +192,9 @@ fn close_showing(i: usize, s: Showing, printed: &mut [u8]) -> Outcome {
 }
 
 // Shows a file; argument i names it.
-pub fn show(fd: i32, i: usize) -> Outcome {
+pub fn show(rt: &HostRuntime, file: &File, i: usize) -> Outcome {
     let mut input = [0u8; PIECE];
     let mut printed = [0u8; PIECE];
-    let s = show_all(fd, &mut input, &mut printed);
-    close_showing(i, s, &mut printed)
+    let s = show_all(rt, file, &mut input, &mut printed);
+    close_showing(rt, i, s, &mut printed)
 }

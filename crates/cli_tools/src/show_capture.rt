@@ -12,12 +12,13 @@ use describe_capture::capture_words::{put_capture_totals, put_entry};
 use describe_capture::fault_words::put_fault_line;
 use describe_capture::finding::{end_fault, fault_byte, is_fault, kind_fault};
 use replay_state::stamps::stamp_in;
+use std::fs::File;
 use ticks::{Stamp, difference, in_nanos, stamp_of};
 use times::nanos_number;
 
 // How far the reading is: bytes and entries shown, the sum of their differences in ns, whether there was an entry, and its stamp;
 // where it stopped, if early; what was read, and what waits to be written.
-#[derive(Drop)]
+#[derive(Clone, Copy)]
 struct Showing {
     goes_on: bool,
     offset: u64,
@@ -47,11 +48,17 @@ fn nothing_shown() -> Showing {
 }
 
 // The next piece is read; what waits is written before.
-fn read_next(fd: i32, before: Showing, input: &mut [u8], printed: &[u8]) -> Showing {
+fn read_next(
+    rt: &HostRuntime,
+    file: &File,
+    before: Showing,
+    input: &mut [u8],
+    printed: &[u8],
+) -> Showing {
     let mut s = before;
     let waits = s.out;
-    let out = flush_out(printed, waits);
-    let piece = read_piece(fd, input);
+    let out = flush_out(rt, printed, waits);
+    let piece = read_piece(file, input);
     s.goes_on = out.error == 0;
     s.out = out;
     s.piece = piece;
@@ -84,7 +91,13 @@ fn nanos_since(s: Showing, stamp: Stamp) -> u64 {
     0
 }
 
-fn print_entry(s: Showing, stamp: Stamp, held: Held, printed: &mut [u8]) -> Waiting {
+fn print_entry(
+    rt: &HostRuntime,
+    s: Showing,
+    stamp: Stamp,
+    held: Held,
+    printed: &mut [u8],
+) -> Waiting {
     let waits = s.out;
     let bytes = held.bytes;
     let earlier = s.earlier;
@@ -97,16 +110,16 @@ fn print_entry(s: Showing, stamp: Stamp, held: Held, printed: &mut [u8]) -> Wait
         stamp,
         decode::decoding::decode(bytes),
     );
-    end_line(printed, waits, end)
+    end_line(rt, printed, waits, end)
 }
 
 // An entry with its whole record.
-fn show_entry(before: Showing, printed: &mut [u8]) -> Showing {
+fn show_entry(rt: &HostRuntime, before: Showing, printed: &mut [u8]) -> Showing {
     let mut s = before;
     let entry = s.entry;
     let held = entry.held;
     let stamp = stamp_of_entry(entry);
-    let out = print_entry(before, stamp, held, printed);
+    let out = print_entry(rt, before, stamp, held, printed);
     let none = no_entry();
     s.goes_on = out.error == 0;
     s.nanos = plus(s.nanos, nanos_since(before, stamp));
@@ -156,11 +169,17 @@ fn fault_of(s: Showing) -> CaptureFault {
 }
 
 // Its line, where the next byte is at `next`.
-fn show_fault(before: Showing, fault: CaptureFault, next: u64, printed: &mut [u8]) -> Showing {
+fn show_fault(
+    rt: &HostRuntime,
+    before: Showing,
+    fault: CaptureFault,
+    next: u64,
+    printed: &mut [u8],
+) -> Showing {
     let mut s = before;
     let waits = s.out;
     let end = put_fault_line(&mut *printed, waits.count, fault_byte(next, fault), fault);
-    let out = end_line(printed, waits, end);
+    let out = end_line(rt, printed, waits, end);
     s.goes_on = false;
     s.stopped_at = next;
     s.out = out;
@@ -170,21 +189,21 @@ fn show_fault(before: Showing, fault: CaptureFault, next: u64, printed: &mut [u8
 // ---- The file
 
 // What is taken of an entry: its line, once its record is whole, or what ends the capture at its kind byte.
-fn show_taken(s: Showing, printed: &mut [u8]) -> Showing {
+fn show_taken(rt: &HostRuntime, s: Showing, printed: &mut [u8]) -> Showing {
     let entry = s.entry;
     let held = entry.held;
     let fault = fault_at_kind(s);
     if is_fault(fault) {
-        return show_fault(s, fault, plus(s.offset, 4), printed);
+        return show_fault(rt, s, fault, plus(s.offset, 4), printed);
     }
     if is_full(held) {
-        return show_entry(s, printed);
+        return show_entry(rt, s, printed);
     }
     s
 }
 
 // What the piece has of the next entry.
-fn show_next(before: Showing, input: &[u8], printed: &mut [u8]) -> Showing {
+fn show_next(rt: &HostRuntime, before: Showing, input: &[u8], printed: &mut [u8]) -> Showing {
     let mut s = before;
     let mut piece = s.piece;
     let first = s.entry;
@@ -193,62 +212,68 @@ fn show_next(before: Showing, input: &[u8], printed: &mut [u8]) -> Showing {
     piece.from = took.from;
     s.piece = piece;
     s.entry = entry;
-    show_taken(s, printed)
+    show_taken(rt, s, printed)
 }
 
 // The end of the file, perhaps within an entry.
-fn show_rest(before: Showing, printed: &mut [u8]) -> Showing {
+fn show_rest(rt: &HostRuntime, before: Showing, printed: &mut [u8]) -> Showing {
     let mut s = before;
     let piece = s.piece;
     let fault = fault_at_end(s);
     if is_fault(fault) & (piece.error == 0) {
-        return show_fault(s, fault, next_of(s), printed);
+        return show_fault(rt, s, fault, next_of(s), printed);
     }
     s.goes_on = false;
     s
 }
 
-fn show_turn(fd: i32, s: Showing, input: &mut [u8], printed: &mut [u8]) -> Showing {
+fn show_turn(
+    rt: &HostRuntime,
+    file: &File,
+    s: Showing,
+    input: &mut [u8],
+    printed: &mut [u8],
+) -> Showing {
     let piece = s.piece;
     if piece.from < piece.to {
-        return show_next(s, input, printed);
+        return show_next(rt, s, input, printed);
     }
     if piece.ended {
-        return show_rest(s, printed);
+        return show_rest(rt, s, printed);
     }
-    read_next(fd, s, input, printed)
+    read_next(rt, file, s, input, printed)
 }
 
 // A proved loop has to end, and nothing says that a file does: it counts its turns down from a number that no run uses up.
-fn show_all(fd: i32, input: &mut [u8], printed: &mut [u8]) -> Showing {
+fn show_all(rt: &HostRuntime, file: &File, input: &mut [u8], printed: &mut [u8]) -> Showing {
     let mut s = nothing_shown();
     let mut turns = u64::MAX;
     while turns > 0 && s.goes_on {
-        s = show_turn(fd, s, &mut *input, &mut *printed);
+        s = show_turn(rt, file, s, &mut *input, &mut *printed);
         turns -= 1;
     }
     s
 }
 
 // The last line, and all that waits is written: the error of that, 0 where there is none.
-fn print_totals(s: Showing, printed: &mut [u8]) -> i32 {
+fn print_totals(rt: &HostRuntime, s: Showing, printed: &mut [u8]) -> i32 {
     let waits = s.out;
     let end = put_capture_totals(&mut *printed, waits.count, s.entries, s.offset, s.nanos);
-    let longer = end_line(&mut *printed, waits, end);
-    let out = flush_out(printed, longer);
-    after_printing(out.error)
+    let longer = end_line(rt, &mut *printed, waits, end);
+    let out = flush_out(rt, printed, longer);
+    after_printing(rt, out.error)
 }
 
 // How it ended; argument i names the file.
-fn close_showing(i: usize, s: Showing, printed: &mut [u8]) -> Outcome {
+fn close_showing(rt: &HostRuntime, i: usize, s: Showing, printed: &mut [u8]) -> Outcome {
     let piece = s.piece;
     let fault = fault_of(s);
-    let error = print_totals(s, printed);
+    let error = print_totals(rt, s, printed);
     if piece.error != 0 {
-        complain_read(i, next_of(s), piece.error);
+        complain_read(rt, i, next_of(s), piece.error);
         return Outcome::Unusable;
     }
-    complain_capture(i, s.stopped_at, fault);
+    complain_capture(rt, i, s.stopped_at, fault);
     if is_fault(fault) {
         return unless_error(error, Outcome::Refused);
     }
@@ -256,9 +281,9 @@ fn close_showing(i: usize, s: Showing, printed: &mut [u8]) -> Outcome {
 }
 
 // Shows a capture; argument i names it.
-pub fn show_capture(fd: i32, i: usize) -> Outcome {
+pub fn show_capture(rt: &HostRuntime, file: &File, i: usize) -> Outcome {
     let mut input = [0u8; PIECE];
     let mut printed = [0u8; PIECE];
-    let s = show_all(fd, &mut input, &mut printed);
-    close_showing(i, s, &mut printed)
+    let s = show_all(rt, file, &mut input, &mut printed);
+    close_showing(rt, i, s, &mut printed)
 }

@@ -1,4 +1,6 @@
 // The lent words of configuration space, 64 to a slot: the resets of a slot, of one slot after the other, and of all words.
+#![tactic(auto)]
+
 ghost use Rattle.std.specs.Prelude.{◌≡◌, ◌+◌, ◌*◌, ◌<◌, ◌≤◌, min, length, get_or, set};
 ghost use Rattle.registers.specs.Rows.{masks};
 ghost use Rattle.registers.specs.inner.Masks.{with_defaults};
@@ -9,7 +11,7 @@ use bits::at_most;
 use registers::{DEVICE_CONTROL, Kind, Masks, PMCSR};
 
 // The bits that take their defaults in a reset, of each word that software or the hardware changes; no other word has any.
-#[derive(Drop)]
+#[derive(Clone, Copy)]
 pub struct ResetMasks {
     pub command: u32,
     pub cache_line: u32,
@@ -24,7 +26,7 @@ pub struct ResetMasks {
 }
 
 // The masks of link down, with the kind that they are of.
-#[derive(Drop)]
+#[derive(Clone, Copy)]
 pub struct LinkMasks {
     pub kind: Kind,
     pub masks: ResetMasks,

@@ -53,7 +53,7 @@ plain-pos : (n : ℕ) → plain_text (pos n) ≡ decimal_of n
 unfolding plain_text text_if
 plain-pos n = ap (λ (b : Bool). cond b (chars "-") [] ++ decimal_of n) (le-ltb n 0 (omega arith))
 
-plain_neg : (n : ℕ) → plain_text (negsuc n) ≡ 0x2_d ∷ decimal_of (suc n)
+plain_neg : (n : ℕ) → plain_text (negsuc n) ≡ 0x2D ∷ decimal_of (suc n)
 unfolding plain_text text_if
 plain_neg n = refl
 
@@ -61,7 +61,7 @@ plain_back : (d : ℤ) → nat_abs d < 10 ^ 20 → integer_in (plain_text d) ≡
 unfolding integer_in
 plain_back (pos n) h =
     ap integer_in (plain-pos n)
-    ∙ when_false (eqb (get_or (decimal_of n) 0 0) 0x2_d) _ _ (ne_eqb (get_or (decimal_of n) 0 0) 0x2_d (λ (e : get_or (decimal_of n) 0 0 ≡ 0x2_d). omega (arith, (starts 19 n).high)))
+    ∙ when_false (eqb (get_or (decimal_of n) 0 0) 0x2D) _ _ (ne_eqb (get_or (decimal_of n) 0 0) 0x2D (λ (e : get_or (decimal_of n) 0 0 ≡ 0x2D). omega (arith, (starts 19 n).high)))
     ∙ ap pos (decimal_value 20 n h)
 plain_back (negsuc n) h = ap integer_in (plain_neg n) ∙ ap (λ (k : ℕ). neg_ℤ (pos k)) (decimal_value 20 (suc n) h)
 

@@ -23,7 +23,7 @@ plain_text d = text_if (is_early d) (chars "-") ++ decimal_of (nat_abs d)
 
 -- the integer that a text is: digits, after '-' for a negative one
 unfoldable pub integer_in : List ℕ → ℤ
-integer_in s = cond (eqb (get_or s 0 0) 0x2_d) (neg_ℤ (pos (value_from false 0 (drop 1 s)))) (pos (value_from false 0 s))
+integer_in s = cond (eqb (get_or s 0 0) 0x2D) (neg_ℤ (pos (value_from false 0 (drop 1 s)))) (pos (value_from false 0 s))
 
 -- THE STATEMENT: every i64 that is put so is read back
 abbrev pub ReadBack : Type 0

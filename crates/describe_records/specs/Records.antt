@@ -1,5 +1,5 @@
 -- A record in words, and a readiness message.
-use Rattle.std.specs.Prelude.{ℕ, ◌+◌, ◌*◌, ◌/◌, ◌%◌, Bool, false, ◌||◌, cond, List, ◌++◌, eqb, ltb}
+use Rattle.std.specs.Prelude.{ℕ, ◌*◌, ◌/◌, ◌%◌, Bool, false, ◌||◌, cond, List, ◌++◌, eqb, ltb}
 use Rattle.messages.specs.declared.Message.{Message}
 use Rattle.messages.specs.declared.Message.TheVariants.{Drs, Frs, NotReadiness}
 use Rattle.records.specs.declared.Request.{Request}

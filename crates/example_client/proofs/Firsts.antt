@@ -3,7 +3,7 @@ use Prim.Native.Nat.{ℕ, ◌<◌}
 use mathlib.Core.Path.{◌≡◌, refl, ap, sym, ◌∙◌}
 use mathlib.Core.List.{List, [], ◌∷◌, ◌++◌}
 use native.Mathlib.Omega.{arith}
-use lib.ListN.{length, get_or, take, drop, replicate, length-append, length-map}
+use lib.ListN.{length, get_or, take, drop, replicate, length-append}
 use lib.Seq.{take_all, take-suc, take-append_seam}
 use Rattle.trace.specs.Lent.{Left}
 use mir.Val.{Val}
@@ -24,7 +24,7 @@ use Rattle.bench_by_value.specs.First.{feeds_first}
 
 -- what feed gave holds an array of 32
 pub all_32 : (r : Fed) (vs : List Val) → Is F.the_row r vs → length r.statuses ≡ 32
-all_32 r vs is = sym (length-map r.statuses _) ∙ (LL.owed F.the_type F'.the_laws r vs is).1.1.1.1.0.1.0.1
+all_32 r vs is = (LL.owed F.the_type F'.the_laws r vs is).1.1.1.1.0.1.0.1
 
 -- the first of an array that isn't empty
 pub first_of : (xs : List Status) → 0 < length xs → get_or xs 0 down ∷ [] ≡ take 1 xs

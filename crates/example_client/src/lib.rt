@@ -1,4 +1,6 @@
 // A caller: a card of one slot, fed in two calls over memory of the caller's own; its result is said by the plain bench alone.
+#![tactic(auto)]
+
 ghost use Rattle.std.specs.Prelude.{◌≡◌, [], ◌∷◌, take};
 ghost use Rattle.demand3.specs.Held.{held};
 ghost use Rattle.demand3.specs.Feeding.{feeds, calls};
@@ -13,7 +15,7 @@ use records::Port;
 use two_calls::{Both, both_with};
 
 // What one call gave, and the memory after it.
-#[derive(Drop)]
+#[derive(Clone, Copy)]
 struct Once {
     outcome: Outcome,
     port: Port,

@@ -1,4 +1,6 @@
 // The thirteen records run: code on the device by value and the lent slices.
+#![tactic(auto)]
+
 pub mod answering; // an answer's bytes
 pub mod kinds; // what a slot holds
 pub mod routing; // where a configuration request goes

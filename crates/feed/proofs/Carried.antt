@@ -22,7 +22,7 @@ use Rattle.trace.proofs.Rejoin.{complete_itself, one_record, rejoin}
 use Rattle.readiness.specs.declared.Status.{Status}
 use Rattle.readiness.specs.declared.Setup.{Setup}
 use Rattle.records.specs.State.{State}
-use Rattle.records.specs.Sound.{Sound, sound}
+use Rattle.records.specs.Sound.{Sound}
 use Rattle.records.proofs.SoundFacts.{facts_sound}
 use Rattle.records.specs.declared.Port.{Port}
 use Rattle.demand3.specs.Held.{Held, held, opened, state_of, carried_of, held_of}

@@ -1,13 +1,13 @@
 -- The moments that are still to be noted, where feed's loop runs whole records.
-use Prim.Native.Nat.{ℕ, ◌+◌, ◌-◌, ◌*◌, ◌≤◌, ◌<◌}
+use Prim.Native.Nat.{ℕ, ◌+◌, ◌-◌, ◌*◌, ◌≤◌}
 use native.Mathlib.Omega.{arith}
-use mathlib.Core.Path.{◌≡◌, refl, ap, ap₂, sym, ◌∙◌, subst}
-use mathlib.Core.List.{List, [], ◌∷◌, ◌++◌}
+use mathlib.Core.Path.{◌≡◌, refl, ap, sym, ◌∙◌}
+use mathlib.Core.List.{List, [], ◌∷◌}
 use lib.ListN.{length, get_or, take, drop}
 use lib.Seq.{take_at, drop_at, drop-drop}
 use lib.Dec.{ltb}
 use borrow.Author.Tests.{le-ltb}
-use Rattle.trace.specs.Format.{if◌then◌else◌, size_of, pad, longest, Next, next}
+use Rattle.trace.specs.Format.{size_of, pad, longest, next}
 use Rattle.trace.specs.Exactly.{joined_up, AllWhole}
 use Rattle.trace.specs.inner.Gathered.{whole_size}
 use Rattle.trace.proofs.Tests.{if_false}

@@ -1,4 +1,6 @@
 // Feed by value over the lent slices: each whole record of a call's trace runs in its turn.
+#![tactic(auto)]
+
 mod choosing; // how a record takes its turn
 pub mod closing; // the end of a call
 pub mod running; // the records of a call
@@ -24,7 +26,7 @@ use settle::phases::{in_numbers, in_statuses};
 use times::Nanos;
 
 // What feed gives, beside the lent slices.
-#[derive(Drop)]
+#[derive(Clone, Copy)]
 pub struct Fed {
     pub number: u8,
     pub consumed: usize,
@@ -34,7 +36,7 @@ pub struct Fed {
 }
 
 // What feed gives where the statuses are changed in place, beside the lent slices.
-#[derive(Drop)]
+#[derive(Clone, Copy)]
 pub struct FedPort {
     pub number: u8,
     pub consumed: usize,
@@ -43,14 +45,14 @@ pub struct FedPort {
 }
 
 // How a call begins: the number for which it is refused, or 0; and the size of the first record that it completes, 0 if there is none.
-#[derive(Drop)]
+#[derive(Clone, Copy)]
 pub struct Opening {
     pub number: u8,
     pub size: usize,
 }
 
 // How a record takes its turn.
-#[derive(Drop)]
+#[derive(Clone, Copy)]
 pub enum Turn {
     // A configuration read of a slot of the card.
     Read(Request),

@@ -35,7 +35,7 @@ use settle::phases::{note, put_status, status_at};
 use times::Nanos;
 
 // What a turn leaves that can start a slot: the device, and a moment before which no slot becomes Ready.
-#[derive(Drop)]
+#[derive(Clone, Copy)]
 pub struct Moved {
     pub dev: Dev,
     pub earliest: Nanos,

@@ -1,16 +1,18 @@
 // The queue of FRS messages at the root port: a ring over lent cells, with its two status bits and what a record counts.
+#![tactic(auto)]
+
 ghost use Rattle.std.specs.Prelude.{◌≡◌, ◌%◌, ◌≤◌, ◌<◌};
 ghost use Rattle.frs_queue.specs.Queue.{Ring, ring, counted as counted_of, rises, place_of, cell_of, tally_queued, tally_dropped, arrives, removed, emptied, register_of};
 
 // A Function Readiness Status message: the requester ID and the reason.
-#[derive(Drop)]
+#[derive(Clone, Copy)]
 pub struct Frs {
     pub id: u16,
     pub reason: u8,
 }
 
 // Where the queued messages lie in the ring of cells, and the port's status bits Received and Overflow.
-#[derive(Drop)]
+#[derive(Clone, Copy)]
 pub struct Queue {
     pub start: usize,
     pub depth: usize,
@@ -19,7 +21,7 @@ pub struct Queue {
 }
 
 // What one record has brought so far: the interrupts raised for Received, Overflow and DRS Received; the FRS queued and dropped.
-#[derive(Drop)]
+#[derive(Clone, Copy)]
 pub struct Tally {
     pub received: bool,
     pub overflow: bool,
@@ -29,7 +31,7 @@ pub struct Tally {
 }
 
 // What an arrival leaves beside the cells.
-#[derive(Drop)]
+#[derive(Clone, Copy)]
 pub struct Arrival {
     pub queue: Queue,
     pub tally: Tally,

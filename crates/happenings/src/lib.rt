@@ -1,7 +1,8 @@
 // No code but the type: what happens in a record, one thing after the other, each at its own moment, and what a write starts.
+#![tactic(auto)]
 
 // What a configuration write that is done starts, or asks for in vain.
-#[derive(Drop)]
+#[derive(Clone, Copy)]
 pub enum Note {
     Plain,
     // Bit 15 of 78h, at a slot that is FLR capable and at one that isn't.

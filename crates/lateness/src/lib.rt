@@ -1,4 +1,6 @@
 // The lateness report (02, Q-7): per slot the seen time minus the bench time in signed nanoseconds, and totals over a list of these.
+#![tactic(auto)]
+
 mod slots; // the difference of a slot
 mod summing; // the totals of a list
 
@@ -6,7 +8,7 @@ pub use slots::{bench_time, difference, number_of, of_slot, value_of};
 pub use summing::totals;
 
 // The difference of a slot: none, in nanoseconds and negative if early, or refused.
-#[derive(Drop)]
+#[derive(Clone, Copy)]
 pub enum Lateness {
     NoDifference,
     Of(i64),
@@ -14,7 +16,7 @@ pub enum Lateness {
 }
 
 // The totals of a list of differences; `number` is 0, or 34 or 35 with all totals 0.
-#[derive(Drop)]
+#[derive(Clone, Copy)]
 pub struct Report {
     pub number: u8,
     pub early: u32,

@@ -1,11 +1,11 @@
 -- What is left to happen, by what is left, and what happens in an advance, in a link up and in a message.
-use Prim.Native.Nat.{ℕ, zero, suc, ◌*◌, ◌≤◌, ◌<◌}
+use Prim.Native.Nat.{ℕ, zero, suc, ◌*◌, ◌≤◌}
 use native.Mathlib.Omega.{arith}
 use mathlib.Core.Bool.{Bool, true, false, cond}
 use mathlib.Core.List.{List, [], ◌∷◌, ◌++◌}
 use mathlib.Core.Path.{◌≡◌, refl, sym, ap, ◌∙◌}
 use lib.Dec.{leb}
-use lib.ListN.{length, get_or, set, take}
+use lib.ListN.{length, set, take}
 use lib.Seq.{take_at, length-take-le}
 use Rattle.times.specs.declared.Nanos.{Nanos}
 use Rattle.times.specs.Moments.{sum_of, clock_end}
@@ -13,22 +13,20 @@ use Rattle.messages.specs.declared.Message.{Message}
 use Rattle.messages.specs.declared.Message.TheVariants.{Drs, Frs, NotReadiness}
 use Rattle.frs_queue.specs.Queue.{no_tally}
 use Rattle.readiness.specs.declared.Setup.{Setup}
-use Rattle.readiness.specs.declared.Slot.{Slot}
 use Rattle.readiness.specs.declared.Status.{Status}
 use Rattle.readiness.specs.declared.Dev.{Dev}
 use Rattle.readiness.specs.Fields.{with_clock}
-use Rattle.readiness.specs.Status.{ready, after_link_up, started_by_link_up}
+use Rattle.readiness.specs.Status.{after_link_up, started_by_link_up}
 use Rattle.readiness.specs.Settle.{scene}
 use Rattle.readiness.specs.inner.Phases.{statuses_in}
 use Rattle.readiness.proofs.PhaseNumbers.{statuses_length, statuses_take}
 use Rattle.records.specs.declared.Completion.TheVariants as completion
 use Rattle.records.specs.declared.Record.TheVariants as variants
-use Rattle.records.specs.State.{State, state}
+use Rattle.records.specs.State.{state}
 use Rattle.records.specs.Answer.{refused, does}
 use Rattle.records.specs.CardRecords.{advance_effect, link_up_effect}
 use Rattle.records.specs.Run.{effect}
-use Rattle.happenings.specs.Happenings.{Happening, frs_happen, drs_happens, settling, by_message, happenings_in, happenings}
-use Rattle.left_to_happen.specs.declared.Left.{Left}
+use Rattle.happenings.specs.Happenings.{frs_happen, drs_happens, settling, by_message, happenings_in, happenings}
 use Rattle.left_to_happen.specs.declared.Left.TheVariants.{Nothing, Settling, Arriving}
 use Rattle.left_to_happen.specs.declared.LeftToHappen.{LeftToHappen}
 use Rattle.left_to_happen.specs.Left.{happens_of, left_happens}

@@ -1,10 +1,9 @@
 -- What is left to happen after a configuration write.
 use Prim.Native.Nat.{ℕ, zero, suc, ◌≤◌, ◌<◌}
 use native.Mathlib.Omega.{arith}
-use mathlib.Core.Bool.{Bool, true, false, not, cond, true≢false}
+use mathlib.Core.Bool.{Bool, true, false, not, true≢false}
 use mathlib.Core.List.{List, [], ◌∷◌}
 use mathlib.Core.Path.{◌≡◌, refl, sym, ap, ◌∙◌}
-use lib.Dec.{ltb}
 use lib.ListN.{length, get_or, set, take}
 use borrow.Author.Tests.{le-ltb}
 use Rattle.bits.proofs.Choices.{when_true, when_false}
@@ -19,7 +18,6 @@ use Rattle.readiness.specs.declared.Slot.{Slot}
 use Rattle.readiness.specs.declared.Status.{Status}
 use Rattle.readiness.specs.declared.Dev.{Dev}
 use Rattle.readiness.specs.Status.{ready, entry_of}
-use Rattle.readiness.specs.Settle.{scene}
 use Rattle.readiness.specs.inner.Phases.{statuses_in}
 use Rattle.records.specs.declared.Request.{Request}
 use Rattle.records.specs.declared.Record.TheVariants as variants

@@ -1,4 +1,6 @@
 // What is left to happen once a record has done its part, from the bench as it was before the record; and what a write starts.
+#![tactic(auto)]
+
 pub mod writes; // what a configuration write starts
 
 ghost use Rattle.std.specs.Prelude.{◌≡◌, true, false, cond, List, ℕ, ◌≤◌, ◌<◌, get_or, set, take};
@@ -25,7 +27,7 @@ use times::Nanos;
 use writes::{is_start, note_in, status_by};
 
 // Nothing; slots that become Ready, and the DRS; or a message that arrives.
-#[derive(Drop)]
+#[derive(Clone, Copy)]
 pub enum Left {
     Nothing,
     Settling,
@@ -33,7 +35,7 @@ pub enum Left {
 }
 
 // What a write starts, what is left to happen, the device, and the slot statuses as numbers.
-#[derive(Drop)]
+#[derive(Clone, Copy)]
 pub struct LeftToHappen {
     pub note: Note,
     pub left: Left,

@@ -1,15 +1,12 @@
 -- What holds of the lent entries and of the copies that they make.
-use Prim.Native.Nat.{ℕ, zero, suc, ◌-◌, ◌<◌, ◌≤◌}
+use Prim.Native.Nat.{ℕ, suc, ◌<◌}
 use mathlib.Core.Path.{◌≡◌, refl, ap, sym, ◌∙◌}
-use mathlib.Core.List.{List, [], ◌∷◌, ◌++◌}
-use native.Mathlib.Omega.{arith}
-use lib.ListN.{length, get_or, set, take, replicate}
-use lib.Seq.{get_or-set_same, set_out}
+use mathlib.Core.List.{List}
+use lib.ListN.{length}
 use Rattle.trace.specs.Lent.{unchanged}
 use Rattle.trace.proofs.Refusing.{stops_refused, feeds_stopped}
 use Rattle.readiness.specs.declared.Status.{Status}
 use Rattle.readiness.specs.declared.Setup.{Setup}
-use Rattle.readiness.specs.Status.{ready}
 use Rattle.records.specs.declared.Port.{Port}
 use Rattle.demand3.specs.Held.{Held, held, lent_of}
 use Rattle.demand3.specs.Refusals.{set_up_refusal}

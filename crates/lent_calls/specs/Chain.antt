@@ -5,7 +5,7 @@ use Rattle.trace.specs.Calls.{Call, Came, no_call, before}
 use Rattle.readiness.specs.declared.Status.{Status}
 use Rattle.readiness.specs.declared.Setup.{Setup}
 use Rattle.records.specs.declared.Port.{Port}
-use Rattle.demand3.specs.Held.{Held, held}
+use Rattle.demand3.specs.Held.{Held}
 use Rattle.demand3.specs.SettingUp.{sets_up}
 use Rattle.demand3.specs.Feeding.{feeds}
 use Rattle.bench.specs.declared.Outcome.{Outcome}

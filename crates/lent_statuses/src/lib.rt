@@ -1,4 +1,6 @@
 // Slot statuses as they are lent: read, replaced, copied in and out.
+#![tactic(auto)]
+
 ghost use Rattle.std.specs.Prelude.{◌≡◌, ◌<◌, get_or, set, replicate};
 ghost use Rattle.readiness.specs.Status.{ready, down};
 ghost use Rattle.demand3.specs.Held.{lent_of};
@@ -67,7 +69,8 @@ pub fn load(statuses: &[Status]) -> [Status; 32]
     let mut array = all_ready();
     let mut i: usize = 0;
     while i < n {
-        array = with_status(array, i, status_at(statuses, i, past));
+        let next = with_status(array, i, status_at(statuses, i, past));
+        array = next;
         i += 1;
     }
     array

@@ -1,4 +1,6 @@
 // The code of the static libraries: a card's text and a trace or a capture in, answers and the final state as bytes out.
+#![tactic(auto)]
+
 ghost use Rattle.std.specs.Prelude.{◌≡◌, ◌++◌, ◌+◌, ◌*◌, ◌≤◌, length, take};
 ghost use Rattle.std.proofs.lemmas.List.Edits.{sets};
 ghost use Rattle.bits.specs.Widths.{at_most};

@@ -1,11 +1,13 @@
 // Readiness messages of 16 bytes: DRS and FRS, read and written.
+#![tactic(auto)]
+
 ghost use Rattle.std.specs.Prelude.{◌≡◌, get_or};
 ghost use Rattle.messages.specs.Messages.{traffic_class, requester_id, frs_reason, subtype_of, layout, frs_allowed, frs_read, read_message, writable, canonical, left, stored, written};
 
 use bits::{byte_at, u16_of_u8};
 
 // What a message is read as.
-#[derive(Drop)]
+#[derive(Clone, Copy)]
 pub enum Message {
     // The requester ID.
     Drs(u16),

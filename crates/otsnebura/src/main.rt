@@ -1,4 +1,6 @@
 // The command `otsnebura`: the test bench for people.
+#![tactic(auto)]
+
 mod options; // what stands after `run`, `replay` and `sheet`
 mod answers; // the file that `--answers` names
 mod help; // the page of help
@@ -10,7 +12,8 @@ mod commands; // the commands by their names
 
 use cli_arguments::outcome::report;
 use commands::command;
+use std::process::ExitCode;
 
-fn main() {
-    report(command());
+fn main(rt: HostRuntime) -> ExitCode {
+    report(&rt, command(&rt))
 }

@@ -1,10 +1,12 @@
 // What stands after `run` and `replay`: two files, --quiet and --answers FILE, and after `replay` --seen FILE, in any order. After `sheet`:
 // two files and --check.
 use cli_arguments::arguments::{arg_count, arg_is};
+use cli_io::args::arg;
+use cli_io::files::PATH;
 use readiness::{Moments, no_moments};
 
 // Which argument is which, by its number, 0 where it isn't there.
-#[derive(Drop)]
+#[derive(Clone, Copy)]
 pub struct Options {
     pub card: usize,
     // The trace, the capture, or the sheet.
@@ -58,18 +60,18 @@ fn with_file(o: Options, i: usize) -> Options {
 }
 
 // A word that starts with -- and is no option.
-pub fn is_unknown(i: usize) -> bool {
-    let mut arg = io::buffer();
-    let n = os::arg(i, &mut arg);
+pub fn is_unknown(rt: &HostRuntime, i: usize) -> bool {
+    let mut given = [0u8; PATH];
+    let n = arg(rt, i, &mut given);
     if n > 1 {
-        return (arg[0] == 0x2_d) & (arg[1] == 0x2_d);
+        return (given[0] == b'-') & (given[1] == b'-');
     }
     false
 }
 
-fn with_word(o: Options, i: usize) -> Options {
+fn with_word(rt: &HostRuntime, o: Options, i: usize) -> Options {
     let mut p = o;
-    if is_unknown(i) {
+    if is_unknown(rt, i) {
         p.bad = true;
         return p;
     }
@@ -105,62 +107,62 @@ fn with_option_file(o: Options, i: usize) -> Options {
     p
 }
 
-fn with_argument(o: Options, i: usize) -> Options {
+fn with_argument(rt: &HostRuntime, o: Options, i: usize) -> Options {
     let mut p = o;
     if o.wants_file | o.wants_seen {
         return with_option_file(o, i);
     }
-    if arg_is(i, b"--quiet") {
+    if arg_is(rt, i, b"--quiet") {
         p.quiet = true;
         return p;
     }
-    if arg_is(i, b"--check") {
+    if arg_is(rt, i, b"--check") {
         p.check = true;
         return p;
     }
-    if arg_is(i, b"--answers") {
+    if arg_is(rt, i, b"--answers") {
         return with_answers(o);
     }
-    if arg_is(i, b"--seen") {
+    if arg_is(rt, i, b"--seen") {
         return with_seen(o);
     }
-    with_word(o, i)
+    with_word(rt, o, i)
 }
 
-fn with_argument_if_any(o: Options, i: usize) -> Options {
-    if i < arg_count() {
-        return with_argument(o, i);
+fn with_argument_if_any(rt: &HostRuntime, o: Options, i: usize) -> Options {
+    if i < arg_count(rt) {
+        return with_argument(rt, o, i);
     }
     o
 }
 
 // The options among the first nine arguments; none of these commands has more.
-pub fn options_given() -> Options {
+pub fn options_given(rt: &HostRuntime) -> Options {
     let mut o = no_options();
     let mut i: usize = 2;
     while i < 9 {
-        o = with_argument_if_any(o, i);
+        o = with_argument_if_any(rt, o, i);
         i += 1;
     }
     o
 }
 
 // Both files are there, and nothing too much or too little.
-fn is_whole(o: Options) -> bool {
-    (o.card > 0) & (o.input > 0) & !o.wants_file & !o.wants_seen & !o.bad & (arg_count() <= 9)
+fn is_whole(rt: &HostRuntime, o: Options) -> bool {
+    (o.card > 0) & (o.input > 0) & !o.wants_file & !o.wants_seen & !o.bad & (arg_count(rt) <= 9)
 }
 
 // Whether they are those of `run`.
-pub fn is_run(o: Options) -> bool {
-    is_whole(o) & !o.check & (o.seen == 0)
+pub fn is_run(rt: &HostRuntime, o: Options) -> bool {
+    is_whole(rt, o) & !o.check & (o.seen == 0)
 }
 
 // Whether they are those of `replay`.
-pub fn is_replay(o: Options) -> bool {
-    is_whole(o) & !o.check
+pub fn is_replay(rt: &HostRuntime, o: Options) -> bool {
+    is_whole(rt, o) & !o.check
 }
 
 // Whether they are those of `sheet`.
-pub fn is_sheet(o: Options) -> bool {
-    is_whole(o) & !o.quiet & (o.answers == 0) & (o.seen == 0)
+pub fn is_sheet(rt: &HostRuntime, o: Options) -> bool {
+    is_whole(rt, o) & !o.quiet & (o.answers == 0) & (o.seen == 0)
 }

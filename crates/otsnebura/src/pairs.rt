@@ -7,7 +7,7 @@ use cli_io::identity::name_one_file;
 use cli_lateness::seen_file::load_seen;
 
 // Which argument is which, by its number, 0 where it isn't there.
-#[derive(Drop)]
+#[derive(Clone, Copy)]
 pub struct ScoreCall {
     pub card: usize,
     // The word --csv, and the file after it.
@@ -36,27 +36,27 @@ fn with_name(c: ScoreCall, i: usize) -> ScoreCall {
     d
 }
 
-fn with_argument(c: ScoreCall, i: usize) -> ScoreCall {
+fn with_argument(rt: &HostRuntime, c: ScoreCall, i: usize) -> ScoreCall {
     let mut d = c;
     if c.wants_file {
         d.csv = i;
         d.wants_file = false;
         return d;
     }
-    if arg_is(i, b"--csv") {
+    if arg_is(rt, i, b"--csv") {
         d.word = i;
         d.wants_file = true;
         d.bad = c.bad | (c.csv > 0);
         return d;
     }
-    if is_unknown(i) {
+    if is_unknown(rt, i) {
         d.bad = true;
         return d;
     }
     with_name(c, i)
 }
 
-pub fn score_call() -> ScoreCall {
+pub fn score_call(rt: &HostRuntime) -> ScoreCall {
     let mut c = ScoreCall {
         card: 0,
         word: 0,
@@ -66,10 +66,10 @@ pub fn score_call() -> ScoreCall {
         any: false,
         bad: false,
     };
-    let n = arg_count();
+    let n = arg_count(rt);
     let mut i: usize = 2;
     while i < n {
-        c = with_argument(c, i);
+        c = with_argument(rt, c, i);
         i += 1;
     }
     c
@@ -91,32 +91,33 @@ fn is_input(c: ScoreCall, i: usize) -> bool {
     is_of_pair(c, i) | (i == c.card)
 }
 
-fn overwrites_one(c: ScoreCall, i: usize) -> bool {
+fn overwrites_one(rt: &HostRuntime, c: ScoreCall, i: usize) -> bool {
     if is_input(c, i) {
-        return name_one_file(c.csv, i);
+        return name_one_file(rt, c.csv, i);
     }
     false
 }
 
-fn overwrites_any(c: ScoreCall) -> bool {
-    let n = arg_count();
+fn overwrites_any(rt: &HostRuntime, c: ScoreCall) -> bool {
+    let n = arg_count(rt);
     let mut found = false;
     let mut i: usize = 2;
     while i < n {
-        found = found | overwrites_one(c, i);
+        found = found | overwrites_one(rt, c, i);
         i += 1;
     }
     found
 }
 
 // Whether the rows would overwrite an input, by whatever names; if so, it is said.
-pub fn overwrites_input(c: ScoreCall) -> bool {
+pub fn overwrites_input(rt: &HostRuntime, c: ScoreCall) -> bool {
     if c.csv == 0 {
         return false;
     }
-    if overwrites_any(c) {
-        name_file(c.csv);
+    if overwrites_any(rt, c) {
+        name_file(rt, c.csv);
         complain(
+            rt,
             b"the file for the rows is one that is read: expected a file that is neither the card nor a capture nor seen times\n",
         );
         return true;
@@ -127,7 +128,7 @@ pub fn overwrites_input(c: ScoreCall) -> bool {
 // ---- Everything can be read
 
 // How far the files were looked at: the capture whose seen times come next, 0 where a capture does, and how it ended.
-#[derive(Drop)]
+#[derive(Clone, Copy)]
 pub struct Looked {
     pub capture: usize,
     pub good: bool,
@@ -150,17 +151,16 @@ fn goes_on(capture: usize) -> Looked {
     }
 }
 
-fn look_at_capture(i: usize) -> Looked {
-    let fd = open_file(i);
-    if fd < 0 {
+fn look_at_capture(rt: &HostRuntime, i: usize) -> Looked {
+    let Some(file) = open_file(rt, i) else {
         return fails(Outcome::Unusable);
-    }
-    close_file(fd);
+    };
+    close_file(file);
     goes_on(i)
 }
 
-fn look_at_seen(i: usize, slots: usize) -> Looked {
-    let file = load_seen(i, slots);
+fn look_at_seen(rt: &HostRuntime, i: usize, slots: usize) -> Looked {
+    let file = load_seen(rt, i, slots);
     if file.good {
         return goes_on(0);
     }
@@ -168,23 +168,23 @@ fn look_at_seen(i: usize, slots: usize) -> Looked {
     fails(outcome)
 }
 
-fn look_at(c: ScoreCall, l: Looked, slots: usize, i: usize) -> Looked {
+fn look_at(rt: &HostRuntime, c: ScoreCall, l: Looked, slots: usize, i: usize) -> Looked {
     if !l.good | !is_of_pair(c, i) {
         return l;
     }
     if l.capture == 0 {
-        return look_at_capture(i);
+        return look_at_capture(rt, i);
     }
-    look_at_seen(i, slots)
+    look_at_seen(rt, i, slots)
 }
 
 // Opens each capture, and reads and checks each file of seen times, before anything is replayed.
-pub fn look_at_all(c: ScoreCall, slots: usize) -> Looked {
-    let n = arg_count();
+pub fn look_at_all(rt: &HostRuntime, c: ScoreCall, slots: usize) -> Looked {
+    let n = arg_count(rt);
     let mut l = goes_on(0);
     let mut i: usize = 2;
     while i < n {
-        l = look_at(c, l, slots, i);
+        l = look_at(rt, c, l, slots, i);
         i += 1;
     }
     l

@@ -17,6 +17,7 @@ use readiness::Setup;
 
 // With the lateness report, where seen times are given and the capture could be read.
 fn with_report(
+    rt: &HostRuntime,
     printed: &mut [u8],
     w: Waiting,
     slots: usize,
@@ -32,11 +33,11 @@ fn with_report(
     }
     let moments = state.moments;
     let times = o.times;
-    print_table(printed, w, slots, moments, times)
+    print_table(rt, printed, w, slots, moments, times)
 }
 
 // Whether totals are refused, and the error of a write, 0 where there is none.
-#[derive(Drop)]
+#[derive(Clone, Copy)]
 struct Closed {
     refused: bool,
     error: i32,
@@ -44,20 +45,22 @@ struct Closed {
 
 // The end is printed, and all that waits is written.
 fn close_printed(
+    rt: &HostRuntime,
     setup: Setup,
     t: ReplayTurn,
     cells: &[u32],
     printed: &mut [u8],
     o: Options,
-    way: Way,
+    way: Way<'_>,
 ) -> Closed {
     let state = t.state;
     let flow = t.flow;
     let waits = flow.out;
     let piece = flow.piece;
     let quiet = way.quiet | (piece.error != 0);
-    let longer = print_replay_ending(&mut *printed, waits, setup.slots, state, cells, quiet);
+    let longer = print_replay_ending(rt, &mut *printed, waits, setup.slots, state, cells, quiet);
     let table = with_report(
+        rt,
         &mut *printed,
         longer,
         setup.slots,
@@ -66,10 +69,10 @@ fn close_printed(
         piece.error != 0,
     );
     let waits_last = table.out;
-    let out = flush_out(printed, waits_last);
+    let out = flush_out(rt, printed, waits_last);
     Closed {
         refused: table.refused,
-        error: after_printing(out.error),
+        error: after_printing(rt, out.error),
     }
 }
 
@@ -89,45 +92,48 @@ fn outcome_of_replay(state: ReplaySession, refused: bool) -> Outcome {
 
 // Everything is written, and what went wrong is said.
 fn close_replay(
+    rt: &HostRuntime,
     setup: Setup,
     t: ReplayTurn,
     cells: &[u32],
     printed: &mut [u8],
     answers: &[u8],
     o: Options,
-    way: Way,
+    way: Way<'_>,
 ) -> Outcome {
     let state = t.state;
     let session = state.session;
     let flow = t.flow;
     let piece = flow.piece;
     let kept = flow.kept;
-    end_progress(way, session.offset);
-    let lost = close_answers(o, way.answers, answers, kept);
-    let closed = close_printed(setup, t, cells, printed, o, way);
+    end_progress(rt, way, session.offset);
+    let lost = close_answers(rt, o, way.answers, answers, kept);
+    let closed = close_printed(rt, setup, t, cells, printed, o, way);
     if piece.error != 0 {
-        complain_read(o.input, session.offset, piece.error);
+        complain_read(rt, o.input, session.offset, piece.error);
         return Outcome::Unusable;
     }
-    complain_capture(o.input, session.offset, fault_of(state));
+    complain_capture(rt, o.input, session.offset, fault_of(state));
     let outcome = outcome_of_replay(state, closed.refused);
     unless_error(lost, unless_error(closed.error, outcome))
 }
 
 // Replays the capture after a set-up.
 pub fn replay_session(
+    rt: &HostRuntime,
     setup: Setup,
     session: Session,
     live: &mut [u32],
     defaults: &[u32],
     cells: &mut [u32],
     o: Options,
-    way: Way,
+    way: Way<'_>,
 ) -> Outcome {
     let mut input = [0u8; PIECE];
     let mut printed = [0u8; PIECE];
     let mut answers = [0u8; PIECE];
     let t = replay_all(
+        rt,
         setup,
         first_replay_turn(begin_replay(session)),
         live,
@@ -138,5 +144,5 @@ pub fn replay_session(
         &mut answers,
         way,
     );
-    close_replay(setup, t, cells, &mut printed, &answers, o, way)
+    close_replay(rt, setup, t, cells, &mut printed, &answers, o, way)
 }

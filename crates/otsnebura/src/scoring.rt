@@ -6,10 +6,12 @@ use cli_arguments::arguments::{arg_count, bad_usage};
 use cli_arguments::outcome::{Outcome, unless_error};
 use cli_card::card_file::{Loaded, load_card};
 use cli_card::refusal::complain_refusal;
+use cli_io::args::arg;
 use cli_io::files::{
-    after_printing, close_file, complain_read, complain_write, name_file, open_file, overwrite_file,
+    PATH, after_printing, close_file, complain_read, complain_write, name_file, open_file,
+    overwrite_file,
 };
-use cli_io::printing::{Waiting, end_line, flush, flush_out, make_room, nothing_waits};
+use cli_io::printing::{Sink, Waiting, end_line, flush, flush_out, make_room, nothing_waits};
 use cli_io::trace_file::PIECE;
 use cli_lateness::rows::{Outputs, begin_rows, put_capture};
 use cli_lateness::seen_file::load_seen;
@@ -22,6 +24,7 @@ use describe_capture::fault_words::put_fault_message;
 use describe_capture::finding::fault_byte;
 use readiness::{Moments, Setup};
 use score::{Collected, collect, nothing_collected, total};
+use std::fs::File;
 use text_line::text::put_text;
 
 // More than 9,000 differences have no totals, and one more shows it.
@@ -32,11 +35,11 @@ const ROOM: usize = 8192;
 
 // How far the captures are: the one whose seen times come next, 0 where a capture does; what was collected; what waits; whether a capture
 // ended early; and whether a file can't be read.
-#[derive(Drop)]
-struct Score {
+#[derive(Clone, Copy)]
+struct Score<'a> {
     capture: usize,
     collected: Collected,
-    outputs: Outputs,
+    outputs: Outputs<'a>,
     early: bool,
     unread: bool,
 }
@@ -45,17 +48,19 @@ struct Score {
 
 // Replays an open capture after a set-up.
 fn replay_begun(
+    rt: &HostRuntime,
     setup: Setup,
     session: Session,
     live: &mut [u32],
     defaults: &[u32],
     cells: &mut [u32],
-    fd: i32,
+    file: &File,
 ) -> ReplayTurn {
     let mut input = [0u8; PIECE];
     let mut lines = [0u8; 16];
     let mut answers = [0u8; PIECE];
     replay_all(
+        rt,
         setup,
         first_replay_turn(begin_replay(session)),
         live,
@@ -65,8 +70,8 @@ fn replay_begun(
         &mut lines,
         &mut answers,
         Way {
-            input: fd,
-            answers: -1,
+            input: file,
+            answers: Sink::Nowhere,
             quiet: true,
             progress: false,
         },
@@ -74,63 +79,79 @@ fn replay_begun(
 }
 
 fn replay_lent(
+    rt: &HostRuntime,
     setup: Setup,
     live: &mut [u32],
     defaults: &[u32],
     cells: &mut [u32],
-    fd: i32,
+    file: &File,
 ) -> ReplayTurn {
     let session = begin(setup, &mut *live, defaults, &mut *cells);
-    replay_begun(setup, session, live, defaults, cells, fd)
+    replay_begun(rt, setup, session, live, defaults, cells, file)
 }
 
 fn lend(
+    rt: &HostRuntime,
     setup: Setup,
     queue: usize,
     live: &mut [u32],
     defaults: &[u32],
     cells: &mut [u32],
-    fd: i32,
+    file: &File,
 ) -> ReplayTurn {
     let l = at_most(words_of(setup.slots), live.len());
     let d = at_most(words_of(setup.slots), defaults.len());
     let c = at_most(queue, cells.len());
     replay_lent(
+        rt,
         setup,
         &mut live[0..l],
         &defaults[0..d],
         &mut cells[0..c],
-        fd,
+        file,
     )
 }
 
 // Replays an open capture on the card, from set-up on.
-fn replay_open(setup: Setup, queue: usize, defaults: &[u32], fd: i32) -> ReplayTurn {
+fn replay_open(
+    rt: &HostRuntime,
+    setup: Setup,
+    queue: usize,
+    defaults: &[u32],
+    file: &File,
+) -> ReplayTurn {
     let mut live = [0u32; 2048];
     let mut cells = [0u32; 4095];
-    lend(setup, queue, &mut live, defaults, &mut cells, fd)
+    lend(rt, setup, queue, &mut live, defaults, &mut cells, file)
 }
 
 // ---- A capture and its seen times
 
 // The line of a capture that ends early: number and place.
-fn print_early(printed: &mut [u8], w: Waiting, name: &[u8], state: ReplaySession) -> Waiting {
+fn print_early(
+    rt: &HostRuntime,
+    printed: &mut [u8],
+    w: Waiting,
+    name: &[u8],
+    state: ReplaySession,
+) -> Waiting {
     if !ends_early(state) {
         return w;
     }
     let session = state.session;
     let fault = fault_of(state);
-    let room = make_room(libc::STDOUT_FILENO, &*printed, w, ROOM);
+    let room = make_room(Sink::Output(rt), &*printed, w, ROOM);
     let a = put_text(&mut *printed, room.count, name);
     let b = put_text(&mut *printed, a, b": ends early: ");
     let c = put_fault_message(&mut *printed, b, fault_byte(session.offset, fault), fault);
-    end_line(printed, room, c)
+    end_line(rt, printed, room, c)
 }
 
 // What a replayed capture adds.
-fn with_replayed(
+fn with_replayed<'a>(
+    rt: &HostRuntime,
     slots: usize,
-    s: Score,
+    s: Score<'a>,
     state: ReplaySession,
     seen: Moments,
     name: &[u8],
@@ -138,87 +159,103 @@ fn with_replayed(
     of: &mut [usize],
     printed: &mut [u8],
     rows: &mut [u8],
-) -> Score {
+) -> Score<'a> {
     let bench = state.moments;
     let before = s.collected;
     let mut outputs = s.outputs;
     let waits = outputs.out;
-    let out = print_early(&mut *printed, waits, name, state);
+    let out = print_early(rt, &mut *printed, waits, name, state);
     outputs.out = out;
     Score {
         capture: 0,
         collected: collect(values, of, before, slots, bench, seen),
-        outputs: put_capture(printed, rows, outputs, name, slots, bench, seen),
+        outputs: put_capture(rt, printed, rows, outputs, name, slots, bench, seen),
         early: s.early | ends_early(state),
         unread: s.unread,
     }
 }
 
-fn unreadable(s: Score) -> Score {
+fn unreadable<'a>(s: Score<'a>) -> Score<'a> {
     let mut t = s;
     t.unread = true;
     t
 }
 
 // The same by the argument of the capture, whose name stands in the lines; nothing where reading it failed.
-fn with_turn(
+fn with_turn<'a>(
+    rt: &HostRuntime,
     slots: usize,
-    s: Score,
+    s: Score<'a>,
     t: ReplayTurn,
     seen: Moments,
     values: &mut [i64],
     of: &mut [usize],
     printed: &mut [u8],
     rows: &mut [u8],
-) -> Score {
+) -> Score<'a> {
     let state = t.state;
     let session = state.session;
     let flow = t.flow;
     let piece = flow.piece;
     if piece.error != 0 {
-        complain_read(s.capture, session.offset, piece.error);
+        complain_read(rt, s.capture, session.offset, piece.error);
         return unreadable(s);
     }
-    let mut name = io::buffer();
-    let n = os::arg(s.capture, &mut name);
-    with_replayed(slots, s, state, seen, &name[..n], values, of, printed, rows)
+    let mut name = [0u8; PATH];
+    let n = arg(rt, s.capture, &mut name);
+    with_replayed(
+        rt,
+        slots,
+        s,
+        state,
+        seen,
+        &name[..n],
+        values,
+        of,
+        printed,
+        rows,
+    )
 }
 
 // Argument i names the seen times of the capture.
-fn with_pair(
+fn with_pair<'a>(
+    rt: &HostRuntime,
     card: Loaded,
     defaults: &[u32],
-    s: Score,
+    s: Score<'a>,
     i: usize,
     values: &mut [i64],
     of: &mut [usize],
     printed: &mut [u8],
     rows: &mut [u8],
-) -> Score {
+) -> Score<'a> {
     let setup = card.setup;
-    let file = load_seen(i, setup.slots);
+    let file = load_seen(rt, i, setup.slots);
     let seen = file.times;
-    let fd = open_file(s.capture);
-    if !file.good | (fd < 0) {
+    let Some(capture) = open_file(rt, s.capture) else {
+        return unreadable(s);
+    };
+    if !file.good {
         return unreadable(s);
     }
-    let t = replay_open(setup, card.queue, defaults, fd);
-    close_file(fd);
-    with_turn(setup.slots, s, t, seen, values, of, printed, rows)
+    let t = replay_open(rt, setup, card.queue, defaults, &capture);
+    close_file(capture);
+    with_turn(rt, setup.slots, s, t, seen, values, of, printed, rows)
 }
 
 // The next argument: a capture, or the seen times of the one before.
-fn with_next(
+fn with_next<'a>(
+    rt: &HostRuntime,
     call: ScoreCall,
     card: Loaded,
     defaults: &[u32],
-    s: Score,
+    s: Score<'a>,
     i: usize,
     values: &mut [i64],
     of: &mut [usize],
     printed: &mut [u8],
     rows: &mut [u8],
-) -> Score {
+) -> Score<'a> {
     if s.unread | !is_of_pair(call, i) {
         return s;
     }
@@ -227,24 +264,26 @@ fn with_next(
         t.capture = i;
         return t;
     }
-    with_pair(card, defaults, s, i, values, of, printed, rows)
+    with_pair(rt, card, defaults, s, i, values, of, printed, rows)
 }
 
-fn with_all(
+fn with_all<'a>(
+    rt: &HostRuntime,
     call: ScoreCall,
     card: Loaded,
     defaults: &[u32],
-    first: Score,
+    first: Score<'a>,
     values: &mut [i64],
     of: &mut [usize],
     printed: &mut [u8],
     rows: &mut [u8],
-) -> Score {
-    let n = arg_count();
+) -> Score<'a> {
+    let n = arg_count(rt);
     let mut s = first;
     let mut i: usize = 2;
     while i < n {
         s = with_next(
+            rt,
             call,
             card,
             defaults,
@@ -262,13 +301,13 @@ fn with_all(
 
 // ---- The end
 
-fn first_score(fd: i32, rows: &mut [u8]) -> Score {
+fn first_score<'a>(to: Sink<'a>, rows: &mut [u8]) -> Score<'a> {
     let outputs = begin_rows(
         rows,
         Outputs {
             out: nothing_waits(),
             rows: nothing_waits(),
-            fd: fd,
+            to: to,
         },
     );
     Score {
@@ -281,27 +320,33 @@ fn first_score(fd: i32, rows: &mut [u8]) -> Score {
 }
 
 // The rows that wait are written: the error of that, or of an earlier write, 0 where there is none.
-fn close_rows(call: ScoreCall, fd: i32, rows: &[u8], w: Waiting) -> i32 {
-    let all = flush(fd, rows, w);
+fn close_rows(rt: &HostRuntime, call: ScoreCall, to: Sink<'_>, rows: &[u8], w: Waiting) -> i32 {
+    let all = flush(to, rows, w);
     if all.error != 0 {
-        name_file(call.csv);
-        complain_write(all.error);
+        name_file(rt, call.csv);
+        complain_write(rt, all.error);
     }
     all.error
 }
 
 // The totals are printed: the error of that, 0 where there is none.
-fn close_printed(printed: &mut [u8], s: Score, values: &[i64], of: &[usize]) -> i32 {
+fn close_printed(
+    rt: &HostRuntime,
+    printed: &mut [u8],
+    s: Score<'_>,
+    values: &[i64],
+    of: &[usize],
+) -> i32 {
     let mut list = [0i64; MOST];
     let c = s.collected;
     let outputs = s.outputs;
     let waits = outputs.out;
-    let longer = print_totals(&mut *printed, waits, values, of, c, &mut list);
-    let out = flush_out(printed, longer);
-    after_printing(out.error)
+    let longer = print_totals(rt, &mut *printed, waits, values, of, c, &mut list);
+    let out = flush_out(rt, printed, longer);
+    after_printing(rt, out.error)
 }
 
-fn outcome_of(s: Score, values: &[i64]) -> Outcome {
+fn outcome_of(s: Score<'_>, values: &[i64]) -> Outcome {
     let c = s.collected;
     let r = total(values, c);
     if s.early | (r.number != 0) {
@@ -310,14 +355,21 @@ fn outcome_of(s: Score, values: &[i64]) -> Outcome {
     Outcome::Done
 }
 
-// Scores the captures, with rows to descriptor fd.
-fn score_to(call: ScoreCall, card: Loaded, defaults: &[u32], fd: i32) -> Outcome {
+// Scores the captures, with rows to a file, or nowhere.
+fn score_to(
+    rt: &HostRuntime,
+    call: ScoreCall,
+    card: Loaded,
+    defaults: &[u32],
+    to: Sink<'_>,
+) -> Outcome {
     let mut values = [0i64; MOST];
     let mut of = [0usize; MOST];
     let mut printed = [0u8; PIECE];
     let mut rows = [0u8; PIECE];
-    let first = first_score(fd, &mut rows);
+    let first = first_score(to, &mut rows);
     let s = with_all(
+        rt,
         call,
         card,
         defaults,
@@ -329,59 +381,59 @@ fn score_to(call: ScoreCall, card: Loaded, defaults: &[u32], fd: i32) -> Outcome
     );
     let outputs = s.outputs;
     let kept = outputs.rows;
-    let lost = close_rows(call, fd, &rows, kept);
+    let lost = close_rows(rt, call, to, &rows, kept);
     if s.unread {
         let waits = outputs.out;
-        flush_out(&printed, waits);
+        flush_out(rt, &printed, waits);
         return Outcome::Unusable;
     }
-    let unprinted = close_printed(&mut printed, s, &values, &of);
+    let unprinted = close_printed(rt, &mut printed, s, &values, &of);
     unless_error(lost, unless_error(unprinted, outcome_of(s, &values)))
 }
 
 // ---- The command
 
 // The file of rows is opened once everything else could be.
-fn score_opened(call: ScoreCall, card: Loaded, defaults: &[u32]) -> Outcome {
+fn score_opened(rt: &HostRuntime, call: ScoreCall, card: Loaded, defaults: &[u32]) -> Outcome {
     if call.csv == 0 {
-        return score_to(call, card, defaults, -1);
+        return score_to(rt, call, card, defaults, Sink::Nowhere);
     }
-    let fd = overwrite_file(call.csv);
-    if fd < 0 {
+    let Some(rows) = overwrite_file(rt, call.csv) else {
         return Outcome::Unusable;
-    }
-    let outcome = score_to(call, card, defaults, fd);
-    close_file(fd);
+    };
+    let outcome = score_to(rt, call, card, defaults, Sink::Kept(&rows));
+    close_file(rows);
     outcome
 }
 
-fn score_card(call: ScoreCall, card: Loaded, defaults: &[u32]) -> Outcome {
+fn score_card(rt: &HostRuntime, call: ScoreCall, card: Loaded, defaults: &[u32]) -> Outcome {
     let setup = card.setup;
     let number = refusal_of(setup, card.queue, defaults);
     if number != 0 {
-        return complain_refusal(call.card, setup, number, defaults);
+        return complain_refusal(rt, call.card, setup, number, defaults);
     }
-    let looked = look_at_all(call, setup.slots);
+    let looked = look_at_all(rt, call, setup.slots);
     if looked.good {
-        return score_opened(call, card, defaults);
+        return score_opened(rt, call, card, defaults);
     }
     looked.outcome
 }
 
-pub fn score_command() -> Outcome {
-    let call = score_call();
+pub fn score_command(rt: &HostRuntime) -> Outcome {
+    let call = score_call(rt);
     if !is_score(call) {
         return bad_usage(
+            rt,
             b"score wants CARD and then CAPTURE and SEEN, once or more, and takes --csv FILE",
         );
     }
-    if overwrites_input(call) {
+    if overwrites_input(rt, call) {
         return Outcome::Unusable;
     }
     let mut words = [0u32; 2048];
-    let loaded = load_card(call.card, &mut words);
+    let loaded = load_card(rt, call.card, &mut words);
     if loaded.good {
-        return score_card(call, loaded, &words);
+        return score_card(rt, call, loaded, &words);
     }
     loaded.outcome
 }

@@ -1,5 +1,6 @@
 // The slots' readiness: its types and their blank values, and in specs/ what starts a slot anew, which slots become Ready in which order, and
 // what arrives at the root port then.
+#![tactic(auto)]
 
 ghost use Rattle.std.specs.Prelude.{◌≡◌, replicate};
 ghost use Rattle.readiness.specs.Blank.{blank_control, blank_queue, blank_dev, blank_slot, blank_setup};
@@ -10,14 +11,14 @@ use frs_queue::{Queue, Tally};
 use times::{Code, Nanos};
 
 // What a Pending slot is starting after; an FLR with the end of its progress.
-#[derive(Drop)]
+#[derive(Clone, Copy)]
 pub enum Cause {
     LinkUp,
     Flr(Nanos),
     D3hot,
 }
 
-#[derive(Drop)]
+#[derive(Clone, Copy)]
 pub enum Phase {
     Down,
     // The cause and the ready time.
@@ -25,13 +26,13 @@ pub enum Phase {
     Ready,
 }
 
-#[derive(Drop)]
+#[derive(Clone, Copy)]
 pub struct Status {
     pub phase: Phase,
 }
 
 // A slot's entry in the set-up: its four times, and whether it sends FRS.
-#[derive(Drop)]
+#[derive(Clone, Copy)]
 pub struct Slot {
     pub reset: Code,
     pub dl_up: Code,
@@ -41,7 +42,7 @@ pub struct Slot {
 }
 
 // The set-up: how many slots the card has, their entries, the bus number and the root port's ID.
-#[derive(Drop)]
+#[derive(Clone, Copy)]
 pub struct Setup {
     pub slots: usize,
     pub entries: [Slot; 32],
@@ -50,7 +51,7 @@ pub struct Setup {
 }
 
 // The control bits of the root port: CRS software visibility, FRS interrupt enable, DRS signalling.
-#[derive(Drop)]
+#[derive(Clone, Copy)]
 pub struct Control {
     pub visibility: bool,
     pub frs_interrupt: bool,
@@ -58,7 +59,7 @@ pub struct Control {
 }
 
 // The device, but for slot statuses, registers and queue cells.
-#[derive(Drop)]
+#[derive(Clone, Copy)]
 pub struct Dev {
     pub clock: Nanos,
     pub link: bool,
@@ -69,21 +70,21 @@ pub struct Dev {
 }
 
 // The root port while a record runs: the device, and what the record has brought so far.
-#[derive(Drop)]
+#[derive(Clone, Copy)]
 pub struct RootPort {
     pub dev: Dev,
     pub tally: Tally,
 }
 
 // A moment of the bench's clock, or none.
-#[derive(Drop)]
+#[derive(Clone, Copy)]
 pub enum Moment {
     Never,
     At(Nanos),
 }
 
 // One slot that has settled: when it became Ready then, if it did.
-#[derive(Drop)]
+#[derive(Clone, Copy)]
 pub struct SlotSettled {
     pub status: Status,
     pub port: RootPort,
@@ -91,7 +92,7 @@ pub struct SlotSettled {
 }
 
 // For each of 32 slots the moment, in nanoseconds, at which it was last made Ready; a bit of `made` says for each slot whether there is one.
-#[derive(Drop)]
+#[derive(Clone, Copy)]
 pub struct Moments {
     pub made: u32,
     pub at_ns: [u64; 32],

@@ -1,4 +1,6 @@
 // The thirteen records and the port state: their types, and in specs/ what each record does to the device and how it is answered.
+#![tactic(auto)]
+
 ghost use Rattle.std.specs.Prelude.{◌≡◌};
 ghost use Rattle.records.specs.Blank.{blank_port};
 
@@ -8,7 +10,7 @@ use readiness::{Cause, Dev, Moment, Setup, Slot, Status};
 use times::Nanos;
 
 // Whom a configuration request addresses: the slot, the word and the byte enables.
-#[derive(Drop)]
+#[derive(Clone, Copy)]
 pub struct Request {
     pub slot: usize,
     pub word: usize,
@@ -16,7 +18,7 @@ pub struct Request {
 }
 
 // A record, taken from its bytes.
-#[derive(Drop)]
+#[derive(Clone, Copy)]
 pub enum Record {
     // 01: advance clock, by so many nanoseconds.
     Advance(Nanos),
@@ -46,7 +48,7 @@ pub enum Record {
 }
 
 // How a record is answered.
-#[derive(Drop)]
+#[derive(Clone, Copy)]
 pub enum Completion {
     // 0
     Done,
@@ -71,7 +73,7 @@ pub enum Completion {
 }
 
 // An answer: the completion, what the record brought, and the data.
-#[derive(Drop)]
+#[derive(Clone, Copy)]
 pub struct Reply {
     pub completion: Completion,
     pub tally: Tally,
@@ -80,7 +82,7 @@ pub struct Reply {
 
 // How a request to a slot that isn't Ready is answered while it is starting: shown by the vendor ID 0001h; or to be re-issued, since
 // visibility is off, or since it is no read of the whole vendor ID.
-#[derive(Drop)]
+#[derive(Clone, Copy)]
 pub enum Crs {
     Shown,
     VisibilityOff,
@@ -88,7 +90,7 @@ pub enum Crs {
 }
 
 // Where a request goes, and why: the first that applies.
-#[derive(Drop)]
+#[derive(Clone, Copy)]
 pub enum Route {
     NoSlot,
     NoWord,
@@ -102,7 +104,7 @@ pub enum Route {
 }
 
 // The part of the state that a record touches.
-#[derive(Drop)]
+#[derive(Clone, Copy)]
 pub enum Part {
     OneSlot(usize),
     PortAlone,
@@ -110,7 +112,7 @@ pub enum Part {
 }
 
 // What a record leaves that touches one slot, beside the lent slices, and when it made that slot Ready, if it did.
-#[derive(Drop)]
+#[derive(Clone, Copy)]
 pub struct SlotDone {
     pub dev: Dev,
     pub status: Status,
@@ -119,7 +121,7 @@ pub struct SlotDone {
 }
 
 // What a record leaves that touches no slot.
-#[derive(Drop)]
+#[derive(Clone, Copy)]
 pub struct PortDone {
     pub dev: Dev,
     pub reply: Reply,
@@ -127,21 +129,21 @@ pub struct PortDone {
 
 // What a record that touches every slot does before slots become Ready: it is answered with this completion and changes nothing, or it is
 // done and leaves this device.
-#[derive(Drop)]
+#[derive(Clone, Copy)]
 pub enum Started {
     Refused(Completion),
     Does(Dev),
 }
 
 // What an FRS leaves that arrives by a message.
-#[derive(Drop)]
+#[derive(Clone, Copy)]
 pub struct QueueDone {
     pub queue: Queue,
     pub reply: Reply,
 }
 
 // The port state: the device's part, the bytes of an incomplete record, how many they are, and whether the trace is broken.
-#[derive(Drop)]
+#[derive(Clone, Copy)]
 pub struct Port {
     pub dev: Dev,
     pub carried: [u8; 16],

@@ -1,4 +1,6 @@
 // The registers in configuration space: the attributes of each word, and what a read, a write, a reset and the hardware do to one word.
+#![tactic(auto)]
+
 mod table; // the const table of masks
 
 ghost use Rattle.std.specs.Prelude.{◌≡◌, ◌+◌, ◌<◌, ◌≤◌, get_or};
@@ -9,14 +11,14 @@ ghost use Rattle.registers.specs.Words.{lane_mask, power_state, read_word, write
 use table::MASKS;
 
 // What a slot holds: it selects the attributes of its words.
-#[derive(Drop)]
+#[derive(Clone, Copy)]
 pub enum Kind {
     Endpoint,
 }
 
 // The attributes of a word, a mask each: bits that software writes, bits that are cleared by writing 1, sticky bits, and bits that
 // are kept through FLR.
-#[derive(Drop)]
+#[derive(Clone, Copy)]
 pub struct Row {
     pub w: u32,
     pub c: u32,

@@ -9,7 +9,7 @@ use lib.Dec.{ltb, eqb}
 use borrow.Author.Tests.{lt-ltb, le-ltb, eq-eqb, ne_eqb}
 use Rattle.bits.proofs.Numbers.{by_le}
 use Rattle.times.specs.declared.Nanos.{Nanos}
-use Rattle.trace.specs.Format.{if◌then◌else◌, Next, complete, incomplete, unknown, next}
+use Rattle.trace.specs.Format.{when◌then◌else◌, Next, complete, incomplete, unknown, next}
 use Rattle.trace.specs.inner.Gathered.{whole_size}
 use Rattle.trace.proofs.Tests.{if_cases, if_true, if_false}
 use Rattle.trace.proofs.Records.{length_whole, complete_at}
@@ -38,7 +38,7 @@ size_there space bs = size_by space bs (next bs) refl
 
 -- ---- the advances as the code holds them
 abbrev pub next_due : Due → (answered : ℕ) → Nanos
-next_due d n = if eqb n 0 then d.first else d.second
+next_due d n = when eqb n 0 then d.first else d.second
 
 pub due-next : (ts : List Nanos) (n : ℕ) → n < (due_of ts).count → drop n ts ≡ next_due (due_of ts) n ∷ drop (n + 1) ts
 due-next [] n h = absurd (omega arith)

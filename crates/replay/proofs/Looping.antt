@@ -8,7 +8,7 @@ use native.Mathlib.Nat.{sub-zero}
 use lib.ListN.{length, take, drop, take-append-drop, length-append, length-drop}
 use lib.Seq.{take_at, drop_at, drop-drop, length-take-le}
 use lib.Dec.{eqb}
-use Rattle.trace.specs.Format.{if◌then◌else◌, Bytes, pad, next}
+use Rattle.trace.specs.Format.{when◌then◌else◌, Bytes, pad, next}
 use Rattle.trace.specs.Bench.{Device, Ran, runs}
 use Rattle.trace.specs.Lent.{Left}
 use Rattle.trace.specs.inner.Gathered.{end_number, end_count}
@@ -51,7 +51,7 @@ left_of kept x statuses moments live cells answers =
     record { number = x.number; consumed = x.consumed; written = x.written; held = held_noting (held x.port statuses live cells) (moments_with kept moments) x.replay; answers = answers }
 
 -- where the kind byte is consumed, its stamp is the earlier one
-took_by : (r : Replay) → Tidy r → (t : Bool) → (if t then r else replay_of (begins (progress_in r))) ≡ replay_of (if t then progress_in r else begins (progress_in r))
+took_by : (r : Replay) → Tidy r → (t : Bool) → (when t then r else replay_of (begins (progress_in r))) ≡ replay_of (when t then progress_in r else begins (progress_in r))
 took_by r e true = e
 took_by r e false = refl
 

@@ -10,7 +10,7 @@ use lib.Dec.{ltb, eqb}
 use borrow.Author.Tests.{ltb-true, ltb-false, eqb-true, eqb-false, ne_eqb}
 use Rattle.bits.proofs.Bytes.{bytes_take, bytes_drop}
 use Rattle.times.specs.declared.Nanos.{Nanos}
-use Rattle.trace.specs.Format.{if◌then◌else◌, Bytes, next, complete}
+use Rattle.trace.specs.Format.{when◌then◌else◌, Bytes, next, complete}
 use Rattle.trace.specs.inner.Gathered.{whole_size, end_number, end_count}
 use Rattle.trace.proofs.Tests.{if_cases, if_false}
 use Rattle.trace.proofs.Records.{carrying}
@@ -105,7 +105,7 @@ module _ (input : List ℕ) (inputs : Bytes input) (q : Progress) (space at : �
       }
 
   abbrev pub end_at : Noted → Step → Replayed Noted
-  end_at s step = if eqb step.number 0 then left_at s step else still step.number (carrying s []) (progress_in step.replay) []
+  end_at s step = when eqb step.number 0 then left_at s step else still step.number (carrying s []) (progress_in step.replay) []
 
   -- the call ends
   pub record Halts (step : Step) : Type 0 where
@@ -178,7 +178,7 @@ module _ (input : List ℕ) (inputs : Bytes input) (q : Progress) (space at : �
       module _ (order : InOrder q' kind) where
         -- an advance
         does_advance : (t : Nanos) (others : List Nanos) → drop q'.answered (due q'.earlier q'.stamp) ≡ t ∷ others
-            → Does (if ltb space 8 then halts 30 q' at' else runs_advance t (more_answered 1 q') at')
+            → Does (when ltb space 8 then halts 30 q' at' else runs_advance t (more_answered 1 q') at')
         does_advance t others e =
             if_cases Does (ltb space 8) _ _
             (λ h. does_stop 30 q' (omega arith) (λ _. stamped) (λ k defaults s. rw rest (no_advance_room (noting_device k defaults) s q' space kind more order t others e (ltb-true space 8 h))))
@@ -256,7 +256,7 @@ module _ (input : List ℕ) (inputs : Bytes input) (q : Progress) (space at : �
       does_kind : Does (step_after_stamp q' space at' (kind ∷ more))
       unfolding step_after_stamp
       does_kind =
-          let P : ℕ → Type 0 = λ n. Does (if eqb n 0 then step_at_advances (drop q'.answered (due q'.earlier q'.stamp)) q' space at' (kind ∷ more) else halts n (ended_with n q') at') in
+          let P : ℕ → Type 0 = λ n. Does (when eqb n 0 then step_at_advances (drop q'.answered (due q'.earlier q'.stamp)) q' space at' (kind ∷ more) else halts n (ended_with n q') at') in
           if_cases P (back q'.earlier (stamp_in q'.stamp)) 32 _ does_back
           (λ b. if_cases P (eqb kind 1) 33 0 (does_01 b)
           (λ o. does_advances (record { stamped = stamped; forward = b; kind = o }) (drop q'.answered (due q'.earlier q'.stamp)) refl))

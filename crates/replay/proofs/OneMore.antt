@@ -13,7 +13,7 @@ use Rattle.bits.proofs.Bytes.{bytes_append, bytes_take, bytes_drop}
 use Rattle.bits.proofs.Tests.{both_left, both_right}
 use Rattle.times.specs.declared.Nanos.{Nanos}
 use Rattle.ticks.specs.declared.Stamp.{Stamp}
-use Rattle.trace.specs.Format.{if◌then◌else◌, Bytes, next, complete, size_of}
+use Rattle.trace.specs.Format.{when◌then◌else◌, Bytes, next, complete, size_of}
 use Rattle.trace.specs.Bench.{Ran, runs}
 use Rattle.trace.specs.Feed.{kind_at}
 use Rattle.trace.specs.Exactly.{joined_up}

@@ -5,7 +5,7 @@ use mathlib.Core.Bool.{Bool, true, false}
 use mathlib.Core.List.{List, ◌++◌}
 use native.Mathlib.Omega.{arith}
 use lib.ListN.{length, take}
-use Rattle.trace.specs.Format.{if◌then◌else◌}
+use Rattle.trace.specs.Format.{when◌then◌else◌}
 use Rattle.trace.specs.Outcome.{first}
 use Rattle.trace.specs.Lent.{Lent, Left, unchanged, refusal, refusal_or31}
 use Rattle.trace.proofs.Refusing as trace
@@ -60,7 +60,7 @@ module _ {S H : Type 0} (L : Lent S H) (h : Held H) where
   unstopped e = go _ _ _ _ refl refl refl refl e
     where
       go : (r : ℕ) (m : Bool) (n : ℕ) (b : Bool) → refusal L h.port ≡ r → matching L h ≡ m → h.replay.ended ≡ n → (bench_in L h).broken ≡ b
-          → first (first r (if m then 0 else 5)) (first n (if b then 31 else 0)) ≡ 0 → Unstopped
+          → first (first r (when m then 0 else 5)) (first n (when b then 31 else 0)) ≡ 0 → Unstopped
       go zero true zero false er em en eb q = record { accepted = trace.stops_not L h.port er eb; matched = em; unbroken = eb }
       go zero true zero true er em en eb q = absurd (omega arith)
       go zero true (suc n) b er em en eb q = absurd (omega arith)

@@ -4,7 +4,7 @@ use mathlib.Core.Path.{◌≡◌, ap, sym, ◌∙◌, refl}
 use mathlib.Core.Bool.{true, false}
 use mathlib.Core.List.{List}
 use native.Mathlib.Omega.{arith}
-use Rattle.trace.specs.Format.{if◌then◌else◌}
+use Rattle.trace.specs.Format.{when◌then◌else◌}
 use Rattle.trace.specs.Outcome.{first}
 use Rattle.trace.specs.Lent.{Lent, refusal, refusal_or31}
 use Rattle.trace.proofs.Tests.{if_cases}
@@ -18,7 +18,7 @@ use Rattle.demand3.proofs.Numbers.{set_up_cases, given_0, given_1, given_2, give
 
 module _ {S H : Type 0} (L : Lent S H) (h : Held H) where
   abbrev broken : ℕ
-  broken = if (L.view h.port).broken then 31 else 0
+  broken = when (L.view h.port).broken then 31 else 0
 
   -- a port that is not refused gives 31 or 0
   or_31 : refusal L h.port ≡ 0 → refusal_or31 L h.port ≡ broken

@@ -1,5 +1,7 @@
 // Replay of captures, by value over the lent slices: a stretch of the capture is written out as the trace that it stands for, and its records run
 // in their turn.
+#![tactic(auto)]
+
 mod running; // the entries of a call
 mod stepping; // an advance or a record that stands next
 mod stretching; // what stands next in a call
@@ -29,7 +31,7 @@ use ticks::Stamp;
 use times::Nanos;
 
 // What replay gives, beside the lent slices.
-#[derive(Drop)]
+#[derive(Clone, Copy)]
 pub struct Replayed {
     pub number: u8,
     pub consumed: usize,
@@ -41,7 +43,7 @@ pub struct Replayed {
 }
 
 // What replay gives where the statuses are changed in place, beside the lent slices.
-#[derive(Drop)]
+#[derive(Clone, Copy)]
 pub struct ReplayedInPlace {
     pub number: u8,
     pub consumed: usize,
@@ -52,7 +54,7 @@ pub struct ReplayedInPlace {
 }
 
 // What the entries of a call give, beside the lent slices.
-#[derive(Drop)]
+#[derive(Clone, Copy)]
 pub struct ReplayedPort {
     pub number: u8,
     pub consumed: usize,
@@ -63,7 +65,7 @@ pub struct ReplayedPort {
 
 // What stands next, between records: one that runs, an advance that is due (size 0) or the next record of the capture, with the state of the
 // replay after it and how far the input is consumed then; or the call's end, with its number, where 0 leaves it to the bytes that are left.
-#[derive(Drop)]
+#[derive(Clone, Copy)]
 pub struct Step {
     pub runs: bool,
     pub number: u8,
@@ -75,7 +77,7 @@ pub struct Step {
 
 // What stands next in a call: records that have so many bytes as a trace, and so many bytes of answers, with the state of the replay after them and how
 // far the input is consumed then; or, with no answers, the call's end, as a step has it.
-#[derive(Drop)]
+#[derive(Clone, Copy)]
 pub struct Stretch {
     pub number: u8,
     pub len: usize,
@@ -85,7 +87,7 @@ pub struct Stretch {
 }
 
 // An entry that can be written out: the size of its record, its stamp and the advances before it. Size 0: it can't.
-#[derive(Drop)]
+#[derive(Clone, Copy)]
 pub struct Entry {
     pub size: usize,
     pub stamp: Stamp,
@@ -93,7 +95,7 @@ pub struct Entry {
 }
 
 // Entries that were written out: where they end in the input, how many bytes they have as a trace and in answers, and the last one's stamp.
-#[derive(Drop)]
+#[derive(Clone, Copy)]
 pub struct Entries {
     pub at: usize,
     pub len: usize,

@@ -11,7 +11,7 @@ use Rattle.bits.specs.Bits.{one}
 use Rattle.bits.specs.Lists.{listed}
 use Rattle.bits.proofs.Bits.{is_one}
 use Rattle.ticks.specs.declared.Stamp.{Stamp}
-use Rattle.trace.specs.Format.{if◌then◌else◌}
+use Rattle.trace.specs.Format.{when◌then◌else◌}
 use Rattle.capture.specs.declared.Replay.{Replay}
 use Rattle.capture.specs.Advances.{Earlier, none, was}
 use Rattle.capture.specs.Lent.{progress_in, stamp_or0, replay_of}
@@ -116,7 +116,7 @@ module _ (r : Replay) (rest : List ℕ) (f : Fits r) where
       }
 
   -- it says the same
-  same_earlier : (b : Bool) (e : Stamp) → ◌≡◌ {A = Earlier} (if b then was (record { 0 = cond b e.0 0 }) else none) (if b then was e else none)
+  same_earlier : (b : Bool) (e : Stamp) → ◌≡◌ {A = Earlier} (when b then was (record { 0 = cond b e.0 0 }) else none) (when b then was e else none)
   same_earlier true e = refl
   same_earlier false e = refl
 
@@ -129,7 +129,7 @@ module _ (r : Replay) (rest : List ℕ) (f : Fits r) where
   count_back = ap (λ (x : Replay). x.stamp_len) replay_back
 
   -- WHAT A REPLAY CALL LEAVES IS GIVEN BACK EXACTLY
-  earlier_or_0 : (b : Bool) (e : Stamp) → record { 0 = cond b e.0 0 } ≡ stamp_or0 (if b then was e else none)
+  earlier_or_0 : (b : Bool) (e : Stamp) → record { 0 = cond b e.0 0 } ≡ stamp_or0 (when b then was e else none)
   earlier_or_0 true e = refl
   earlier_or_0 false e = refl
 

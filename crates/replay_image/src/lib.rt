@@ -1,4 +1,6 @@
 // The state of a replay as bytes, in the layout of the case stream.
+#![tactic(auto)]
+
 pub mod moments; // the moments that it keeps
 
 ghost use Rattle.std.specs.Prelude.{◌≡◌};

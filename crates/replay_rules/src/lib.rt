@@ -1,1 +1,2 @@
 // No code: replay at the bench.
+#![tactic(auto)]

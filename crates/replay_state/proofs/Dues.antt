@@ -10,7 +10,7 @@ use borrow.Author.Tests.{not-true, not-false, le-leb, lt-leb, eq-eqb, ne_eqb}
 use Rattle.times.specs.declared.Nanos.{Nanos}
 use Rattle.ticks.specs.declared.Stamp.{Stamp}
 use Rattle.ticks.specs.Ticks.{difference, went_back, in_nanos}
-use Rattle.trace.specs.Format.{if◌then◌else◌}
+use Rattle.trace.specs.Format.{when◌then◌else◌}
 use Rattle.trace.proofs.Tests.{if_true, if_false}
 use Rattle.capture.specs.declared.Replay.{Replay}
 use Rattle.capture.specs.Advances.{stamp_in, Earlier, none, was, back, longest_advance, rest, advances, between, due}
@@ -56,7 +56,7 @@ pub the_first : (e : Earlier) (stamp : List ℕ) → e ≡ none → due e stamp 
 unfolding due back between
 the_first e stamp h = rw h (same (eqb (length stamp) 4))
   where
-    same : (t : Bool) → ◌≡◌ {A = List Nanos} (if t then [] else []) []
+    same : (t : Bool) → ◌≡◌ {A = List Nanos} (when t then [] else []) []
     same true = refl
     same false = refl
 

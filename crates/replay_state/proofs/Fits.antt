@@ -8,7 +8,7 @@ use lib.ListN.{length, get_or, take}
 use lib.Dec.{leb, eqb}
 use borrow.Author.Tests.{le-leb, lt-leb, eq-eqb, ne_eqb}
 use Rattle.bits.proofs.Tests.{truth}
-use Rattle.trace.specs.Format.{if◌then◌else◌}
+use Rattle.trace.specs.Format.{when◌then◌else◌}
 use Rattle.capture.specs.declared.Replay.{Replay}
 use Rattle.capture.specs.Advances.{stamp_in, back, due}
 use Rattle.capture.specs.Replay.{Progress, end_fits, matches}
@@ -18,7 +18,7 @@ use Rattle.replay_state.proofs.Moves.{some_earlier, bytes_there}
 -- ---- the number that ended it
 module _ (p : Progress) where
   abbrev number : ℕ
-  number = if back p.earlier (stamp_in p.stamp) then 32 else 33
+  number = when back p.earlier (stamp_in p.stamp) then 32 else 33
 
   pub not_ended : p.ended ≡ 0 → end_fits p ≡ true
   unfolding end_fits

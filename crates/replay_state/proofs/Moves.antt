@@ -8,7 +8,7 @@ use lib.ListN.{length, get_or, take, drop, set, replicate, length-drop}
 use lib.Seq.{take_all, take-append-le, take-append-add, length-take-le, get_or-drop}
 use Rattle.bits.proofs.Numbers.{by_le}
 use Rattle.ticks.specs.declared.Stamp.{Stamp}
-use Rattle.trace.specs.Format.{if◌then◌else◌, pad}
+use Rattle.trace.specs.Format.{when◌then◌else◌, pad}
 use Rattle.trace.proofs.Lists.{pad_more, joined_input, length_joined}
 use Rattle.capture.specs.declared.Replay.{Replay}
 use Rattle.capture.specs.Advances.{none, was, some}
@@ -30,7 +30,7 @@ pub stamped_so : (r : Replay) (bs s : List ℕ) (n : ℕ) → Tidy r → n ≡ l
 stamped_so r bs s n t e f = λ i. record { begun = (t i).begun; earlier = (t i).earlier; stamp_len = e i; stamp = f i; answered = r.answered; ended = r.ended }
 
 -- ---- any state made tidy
-pub some_earlier : (b : Bool) (e : Stamp) → b ≡ some (if b then was e else none)
+pub some_earlier : (b : Bool) (e : Stamp) → b ≡ some (when b then was e else none)
 some_earlier true e = refl
 some_earlier false e = refl
 

@@ -1,4 +1,6 @@
 // A trace fed in pieces, or a capture replayed in one call, after set-up, over lent memory.
+#![tactic(auto)]
+
 ghost use Rattle.std.specs.Prelude.{◌≡◌, ◌<◌, ◌≤◌};
 ghost use Rattle.demand3.specs.Held.{held, lent_of};
 ghost use Rattle.demand3.specs.SettingUp.{sets_up};

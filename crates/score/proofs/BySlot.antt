@@ -1,11 +1,11 @@
 -- The differences that are chosen for a slot are the slot's.
-use Prim.Native.Nat.{ℕ, zero, suc, ◌+◌, ◌≤◌, ◌<◌}
+use Prim.Native.Nat.{ℕ, zero, suc, ◌≤◌, ◌<◌}
 use mathlib.Core.Path.{◌≡◌, refl, sym, ap, subst, ◌∙◌}
 use mathlib.Core.Bool.{Bool, true, false, cond}
 use mathlib.Core.List.{List, [], ◌∷◌, ◌++◌, append-nil, append_assoc}
 use native.Mathlib.Omega.{arith}
 use lib.Dec.{eqb, ltb}
-use lib.ListN.{length, get_or, set, take, length-append}
+use lib.ListN.{length, get_or, take, length-append}
 use lib.Seq.{take-suc, take-length, length-take-le}
 use lib.IntN.{ℤ, pos}
 use borrow.Author.Tests.{ltb-true, ltb-false, lt-ltb, le-ltb, eqb-true, eqb-false, eq-eqb}
@@ -14,7 +14,7 @@ use Rattle.bits.proofs.Tests.{split}
 use Rattle.lateness.specs.declared.Lateness.{Lateness}
 use Rattle.lateness.specs.declared.Lateness.TheVariants.{NoDifference, Of, Outside}
 use Rattle.score.specs.Scores.{Lists, Picked, difference_at, kept, with_difference, collected, is_of, pick, chosen}
-use Rattle.score.specs.Together.{Captured, given, differences_of, differences_in, collected_in, at_start, differences_at, chosen_in, taken, BySlot}
+use Rattle.score.specs.Together.{Captured, given, differences_of, differences_in, collected_in, at_start, differences_at, taken, BySlot}
 use Rattle.score.proofs.Filling.{Filled, whole, one_more, at_first}
 use Rattle.score.proofs.Together.{values_filled}
 

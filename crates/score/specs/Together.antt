@@ -3,7 +3,6 @@ use Rattle.std.specs.Prelude.{ℕ, zero, suc, ◌≤◌, ◌<◌, ◌≡◌, Boo
 use Rattle.readiness.specs.declared.Moments.{Moments}
 use Rattle.lateness.specs.declared.Lateness.{Lateness}
 use Rattle.lateness.specs.declared.Lateness.TheVariants.{NoDifference, Of, Outside}
-use Rattle.lateness.specs.declared.Report.{Report}
 use Rattle.lateness.specs.Totals.{refused, report}
 use Rattle.score.specs.Scores.{Lists, Picked, difference_at, collected, chosen, total_of}
 

@@ -1,4 +1,6 @@
 // Files of seen times (02, Q-7): the reader.
+#![tactic(auto)]
+
 mod layout; // a line, read from its bytes
 mod reading; // the file
 

@@ -12,7 +12,7 @@ use Rattle.sheet_grammar.specs.declared.NumberRead.{NumberRead}
 use Rattle.sheet_grammar.specs.declared.UnitRead.{UnitRead}
 use Rattle.sheet_grammar.specs.Layout.{space, line_end, claim, most_digits, number_at, number_up_to, unit_at}
 use Rattle.sheet_grammar.specs.Reading.{lines_of}
-use Rattle.sheet_grammar.proofs.Fields.{Stands, joined, first_part, second_part, number_read, number_found, unit_read_lem, unit_found}
+use Rattle.sheet_grammar.proofs.Fields.{Stands, joined, first_part, second_part, number_read_lem, number_found, unit_read_lem, unit_found}
 use Rattle.sheet_grammar.proofs.Lines.{end_ends, number-ends, unit_ends}
 use Rattle.seen_grammar.specs.declared.SeenLine.{SeenLine}
 use Rattle.seen_grammar.specs.declared.SeenLineRead.{SeenLineRead}
@@ -68,7 +68,7 @@ line_by_lem s {slot} {time} a b c = ap from1 a ∙ ap (from2 slot) b ∙ ap (lin
 -- a line of the grammar is read as what it says
 pub line_read : {first : List ℕ} {l : SeenLine} → Line first l → line_of first ≡ record { fits = true; line = l }
 unfolding line_by
-line_read (line {slot} {seen} {unit} {n} {t} {u} is_slot isSeen is_unit) =
+line_read (line {slot} {seen} {unit} {n} {t} {u} is_slot is_seen is_unit) =
     let at2 : List ℕ = unit ++ (line_end ∷ []) in
     let at1 : List ℕ = seen ++ (space ∷ at2) in
     let s : List ℕ = slot ++ (space ∷ at1) in
@@ -76,18 +76,18 @@ line_read (line {slot} {seen} {unit} {n} {t} {u} is_slot isSeen is_unit) =
     let here0 : Stands 0 (length s) s s = record { whole = sym (append-nil s) ∙ ap (λ (r : List ℕ). s ++ r) (sym (drop_of_length-le s all)); end = omega arith } in
     let here1 = second_part slot space at1 here0 in
     let here2 = second_part seen space at2 here1 in
-    line_by_lem s (number_read is_slot (first_part slot space at1 here0)) (number_read isSeen (first_part seen space at2 here1)) (unit_read_lem is_unit here2)
+    line_by_lem s (number_read_lem is_slot (first_part slot space at1 here0)) (number_read_lem is_seen (first_part seen space at2 here1)) (unit_read_lem is_unit here2)
     ∙ ap (λ (b : Bool). record { fits = b; line = record { slot = n; time = claim t u } }) (eq-eqb (length s) (length s) refl)
 
 -- ---- a line of the grammar among the lines of a text
 
 -- it isn't empty
 pub line_some : {first : List ℕ} {l : SeenLine} → Line first l → 1 ≤ length first
-line_some (line {slot} is_slot isSeen is_unit) = some_more slot _ is_slot.some
+line_some (line {slot} is_slot is_seen is_unit) = some_more slot _ is_slot.some
   where
     some_more : (s t : List ℕ) → 1 ≤ length s → 1 ≤ length (s ++ t)
     some_more s t h = omega (arith, length-append s t)
 
 -- and it is the first of the lines of a text that starts with it
 pub lines_first : {first : List ℕ} {l : SeenLine} (more : List ℕ) → Line first l → lines_of (first ++ more) ≡ first ∷ lines_of more
-lines_first more (line is_slot isSeen is_unit) = number-ends is_slot (number-ends isSeen (unit_ends is_unit end_ends)) more
+lines_first more (line is_slot is_seen is_unit) = number-ends is_slot (number-ends is_seen (unit_ends is_unit end_ends)) more

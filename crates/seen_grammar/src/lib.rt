@@ -1,23 +1,25 @@
 // Files of seen times: what a line says, and what a reading gives. The grammar and the rules are in specs.
+#![tactic(auto)]
+
 use readiness::Moments;
 use times::ClaimedTime;
 
 // A line: the slot that it names, and when the card was first seen to answer there.
-#[derive(Drop)]
+#[derive(Clone, Copy)]
 pub struct SeenLine {
     pub slot: u64,
     pub time: ClaimedTime,
 }
 
 // What bytes say as a line: whether they are one, and what it says then.
-#[derive(Drop)]
+#[derive(Clone, Copy)]
 pub struct SeenLineRead {
     pub fits: bool,
     pub line: SeenLine,
 }
 
 // Why a file is refused, or that it isn't.
-#[derive(Drop)]
+#[derive(Clone, Copy)]
 pub enum SeenRefusal {
     NoRefusal,
     Layout,
@@ -27,7 +29,7 @@ pub enum SeenRefusal {
 }
 
 // What a reading gives: the refusal with its line, counted from 1, and no times; or 0 and the seen times.
-#[derive(Drop)]
+#[derive(Clone, Copy)]
 pub struct SeenRead {
     pub refusal: SeenRefusal,
     pub line: usize,

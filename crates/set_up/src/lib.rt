@@ -1,4 +1,6 @@
 // Set-up by value over the lent slices, and the refusals of a call.
+#![tactic(auto)]
+
 pub mod refusing; // refusals 1 to 4, and the carried bytes' part of 5
 mod lending; // the queue cells
 
@@ -13,7 +15,7 @@ use records::{Port, blank_port};
 use refusing::set_up_refusal;
 
 // What set-up gives, beside the lent slices.
-#[derive(Drop)]
+#[derive(Clone, Copy)]
 pub struct SetUp {
     pub number: u8,
     pub port: Port,

@@ -3,7 +3,7 @@ use Prim.Native.Nat.{ℕ, zero, suc, ◌+◌, ◌*◌, ◌%◌, ◌^◌, ◌≤�
 use native.Mathlib.Omega.{arith}
 use native.Mathlib.Numerals.{add-one}
 use native.Mathlib.Nat.{zero-add}
-use mathlib.Core.Path.{◌≡◌, refl, sym, ap, ap₂, ◌∙◌, subst}
+use mathlib.Core.Path.{◌≡◌, refl, sym, ap, ap₂, ◌∙◌}
 use mathlib.Core.Bool.{Bool, true, false, not, ◌&&◌, ◌||◌, cond, false≢true}
 use mathlib.Core.List.{List, [], ◌∷◌, ◌++◌}
 use lib.Dec.{eqb}
@@ -13,7 +13,6 @@ use borrow.Author.Tests.{ne_eqb, eq-eqb}
 use Rattle.bits.specs.Bits.{bit}
 use Rattle.bits.specs.Every.{every}
 use Rattle.bits.proofs.Every.{every_at}
-use Rattle.bits.proofs.Bits.{bit_or_lem}
 use Rattle.times.specs.Moments.{greatest_nanos}
 use Rattle.readiness.specs.declared.Moment.{Moment}
 use Rattle.readiness.specs.declared.Moment.TheVariants.{Never, At}

@@ -1,4 +1,6 @@
 // Time sheets with their unit named (02, Q-1): the reader, and what people ask about a sheet.
+#![tactic(auto)]
+
 mod layout; // a line, read from its bytes
 mod reading; // the sheet
 mod doubts; // where the unit may be wrong

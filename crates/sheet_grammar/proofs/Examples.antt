@@ -1,7 +1,7 @@
 -- Worked examples of a sheet, which antt computes.
 use mathlib.Core.Path.{◌≡◌, refl}
-use mathlib.Core.Bool.{Bool, true, false}
-use mathlib.Core.List.{List, [], ◌∷◌}
+use mathlib.Core.Bool.{true}
+use mathlib.Core.List.{[], ◌∷◌}
 use Prim.Native.Nat.{ℕ}
 use lib.ListN.{replicate}
 use Rattle.bits.specs.Text.{chars}
@@ -14,7 +14,6 @@ use Rattle.readiness.specs.declared.Slot.{Slot}
 use Rattle.readiness.specs.declared.Setup.{Setup}
 use Rattle.readiness.specs.Blank.{blank_slot}
 use Rattle.text_fields.specs.Text.{digit_of}
-use Rattle.sheet_grammar.specs.declared.SheetRead.{SheetRead}
 use Rattle.sheet_grammar.specs.declared.Doubt.TheVariants.{Nothing, AskUnit, OneIsZero}
 use Rattle.sheet_grammar.specs.Layout.{digits_from, number_fits, next_place, number_up_to, unit_bytes, unit_at, claim, line_from, fault_in}
 use Rattle.sheet_grammar.specs.Reading.{is_slot, is_too_long, has_too_long, refusal_of, with_times, with_line, lines_of, gives, read_lines, sheet_of, line_naming, place_after}

@@ -108,8 +108,8 @@ unfolding digits_from digit_of
 digits_read zero count rest (done {n = m}) h = ap (λ (c : ℕ). counted c m) (omega arith)
 digits_read (suc more) count rest (done {n = m}) h = ap (λ (c : ℕ). counted c m) (omega arith)
 digits_read zero count rest (digit e d) h = absurd (omega arith)
-digits_read (suc more) count rest (digit {n = m} {b = b} e d) h =
-    when_true (is_digit b) _ _ e ∙ digits_read more (suc count) rest d (omega arith) ∙ ap (λ (c : ℕ). counted c m) (omega arith)
+digits_read {before = before} (suc more) count rest (digit {n = m} {b = b} e d) h =
+    when_true (is_digit b) _ _ e ∙ digits_read {before = before * 10 + digit_of false b} more (suc count) rest d (omega arith) ∙ ap (λ (c : ℕ). counted c m) (omega arith)
 
 -- ---- numbers
 

@@ -65,12 +65,12 @@ same_but (l ∷ ls) setup =
 -- ---- the line that names a slot
 
 -- a line among some that fit fits
-among_fits : {setup : Setup} {before ls : List SheetLine} (l : SheetLine) → Among l ls → AllFit setup before ls → (others : List SheetLine) × Fits setup others l
-among_fits {before = before} l Among.here (AllFit.more f a) = (before, f)
+among_fits : {setup : Setup} (l : SheetLine) {before ls : List SheetLine} → Among l ls → AllFit setup before ls → (others : List SheetLine) × Fits setup others l
+among_fits l {before = before} Among.here (AllFit.more f a) = (before, f)
 among_fits l (Among.there i) (AllFit.more f a) = among_fits l i a
 
 -- it is named by them
-among_named : {ls : List SheetLine} (l : SheetLine) → Among l ls → named_by ls l.slot ≡ true
+among_named : (l : SheetLine) {ls : List SheetLine} → Among l ls → named_by ls l.slot ≡ true
 unfolding named_by
 among_named l (Among.here {l = ls}) = ap (λ (t : Bool). t || named_by ls l.slot) (eq-eqb l.slot l.slot refl)
 among_named l (Among.there {b = k} {l = ls} i) = or_last (eqb k.slot l.slot) (named_by ls l.slot) (among_named l i)
@@ -84,15 +84,15 @@ not_again slot (AllFit.more {before} {l = l} f a) e =
     ap₂ ◌||◌ (ne_eqb l.slot slot other) (not_again slot a (or_last (eqb l.slot slot) (named_by before slot) e))
 
 -- its slot has the codes of its times
-entry_named : {setup : Setup} {before ls : List SheetLine} (l : SheetLine) (now : Setup) → Among l ls → AllFit setup before ls → length now.entries ≡ 32
+entry_named : {setup : Setup} (l : SheetLine) {before ls : List SheetLine} (now : Setup) → Among l ls → AllFit setup before ls → length now.entries ≡ 32
     → entry_of (with_lines ls now) l.slot ≡ with_times l (entry_of now l.slot)
 unfolding with_lines
-entry_named {setup} {before} l now (Among.here {l = ls}) (AllFit.more f a) n =
-    entry_kept ls (with_line l now) l.slot (not_again l.slot a (among_named {ls = l ∷ before} l Among.here))
+entry_named {setup} l {before} now (Among.here {l = ls}) (AllFit.more f a) n =
+    entry_kept ls (with_line l now) l.slot (not_again l.slot a (among_named l {ls = l ∷ before} Among.here))
     ∙ entry_same l now (omega (arith, slot_below setup.slots l f.there))
-entry_named {before = before} l now (Among.there {b = k} {l = ls} i) (AllFit.more f a) n =
+entry_named l {before = before} now (Among.there {b = k} {l = ls} i) (AllFit.more f a) n =
     let other : k.slot ≡ l.slot → ⊥ =
-    λ d. true≢false (sym (among_named l i) ∙ not_again l.slot a (ap (named_by (k ∷ before)) (sym d) ∙ among_named {ls = k ∷ before} k Among.here)) in
+    λ d. true≢false (sym (among_named l i) ∙ not_again l.slot a (ap (named_by (k ∷ before)) (sym d) ∙ among_named k {ls = k ∷ before} Among.here)) in
     entry_named l (with_line k now) i a ((same_but (k ∷ []) now).entries ∙ n)
     ∙ ap (with_times l) (entry_other k now l.slot other)
 

@@ -1,13 +1,6 @@
 -- What a sheet gives, exactly: which texts are accepted, which line is refused and by which number, and the set-up that results.
-use Rattle.std.specs.Prelude.{ℕ, suc, ◌≡◌, Bool, true, false, ◌||◌, List, [], ◌∷◌, ◌++◌, eqb, length, get_or}
-use Rattle.times.specs.declared.Code.{Code}
-use Rattle.times.specs.declared.ClaimedTime.{ClaimedTime}
-use Rattle.times.specs.Codes.{nanos_of, allowed}
-use Rattle.times.specs.Claims.{claimed_nanos}
-use Rattle.times.specs.Encodes.{LeastCovering}
-use Rattle.readiness.specs.declared.Slot.{Slot}
+use Rattle.std.specs.Prelude.{ℕ, suc, ◌≡◌, Bool, true, false, ◌||◌, List, [], ◌∷◌, ◌++◌, eqb, length}
 use Rattle.readiness.specs.declared.Setup.{Setup}
-use Rattle.readiness.specs.Blank.{blank_slot}
 use Rattle.sheet_grammar.specs.declared.SheetLine.{SheetLine}
 use Rattle.sheet_grammar.specs.declared.SheetRead.{SheetRead}
 use Rattle.sheet_grammar.specs.Grammar.{Line, Sheet}

@@ -1,8 +1,6 @@
 -- What an accepted sheet leaves: just the named slots' codes changed, whatever the order of its lines.
 use Rattle.std.specs.Prelude.{ℕ, ◌≡◌, true, false, List, [], length, get_or}
 use Rattle.bits.specs.Orders.{Among, Reordered}
-use Rattle.times.specs.declared.Code.{Code}
-use Rattle.times.specs.declared.ClaimedTime.{ClaimedTime}
 use Rattle.times.specs.Codes.{nanos_of, allowed}
 use Rattle.times.specs.Claims.{claimed_nanos}
 use Rattle.times.specs.Encodes.{LeastCovering}

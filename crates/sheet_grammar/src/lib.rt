@@ -1,9 +1,11 @@
 // Time sheets: what a line says, and what a reading gives. The grammar and the rules are in specs.
+#![tactic(auto)]
+
 use readiness::Setup;
 use times::{ClaimedTime, Unit};
 
 // A line of a sheet: the slot that it names, and its four times as they are claimed.
-#[derive(Drop)]
+#[derive(Clone, Copy)]
 pub struct SheetLine {
     pub slot: u64,
     pub reset: ClaimedTime,
@@ -13,7 +15,7 @@ pub struct SheetLine {
 }
 
 // Digits at a place: how many there are, and the number that they are.
-#[derive(Drop)]
+#[derive(Clone, Copy)]
 pub struct Digits {
     pub count: usize,
     pub number: u64,
@@ -21,7 +23,7 @@ pub struct Digits {
 
 // A number at a place of a line: whether one stands there with a space after it, the number, and the place after the space; where
 // it doesn't fit, the place of the first byte that is wrong.
-#[derive(Drop)]
+#[derive(Clone, Copy)]
 pub struct NumberRead {
     pub fits: bool,
     pub number: u64,
@@ -29,7 +31,7 @@ pub struct NumberRead {
 }
 
 // The same of a unit and the byte 0Ah after it.
-#[derive(Drop)]
+#[derive(Clone, Copy)]
 pub struct UnitRead {
     pub fits: bool,
     pub unit: Unit,
@@ -37,7 +39,7 @@ pub struct UnitRead {
 }
 
 // The line in front of a text: whether there is one, what it says, and how many bytes it has.
-#[derive(Drop)]
+#[derive(Clone, Copy)]
 pub struct LineRead {
     pub fits: bool,
     pub line: SheetLine,
@@ -45,7 +47,7 @@ pub struct LineRead {
 }
 
 // What a reading gives: 0, or a refusal with its line, counted from 1; and the set-up.
-#[derive(Drop)]
+#[derive(Clone, Copy)]
 pub struct SheetRead {
     pub number: u8,
     pub line: usize,
@@ -53,7 +55,7 @@ pub struct SheetRead {
 }
 
 // Where a line departs from the layout: the field, counted from 0, and the place of the first byte that is wrong.
-#[derive(Drop)]
+#[derive(Clone, Copy)]
 pub struct Fault {
     pub field: usize,
     pub place: usize,
@@ -61,7 +63,7 @@ pub struct Fault {
 
 // Whether a code is far from the one that was there before: a question where the unit may be wrong, a note where just one of the
 // times is 0.
-#[derive(Drop)]
+#[derive(Clone, Copy)]
 pub enum Doubt {
     Nothing,
     AskUnit,

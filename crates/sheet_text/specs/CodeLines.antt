@@ -1,6 +1,5 @@
 -- The code of one time, in lines.
 use Rattle.std.specs.Prelude.{ℕ, List, [], ◌++◌}
-use Rattle.times.specs.declared.Code.{Code}
 use Rattle.times.specs.declared.ClaimedTime.{ClaimedTime}
 use Rattle.times.specs.declared.Encoded.{Encoded}
 use Rattle.times.specs.declared.Encoded.TheVariants.{Of, NoCode}

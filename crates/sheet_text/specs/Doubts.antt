@@ -1,5 +1,5 @@
 -- Where the unit of a sheet may be wrong: a line for each time with a doubt.
-use Rattle.std.specs.Prelude.{ℕ, suc, Bool, true, false, cond, List, [], ◌∷◌, ◌++◌}
+use Rattle.std.specs.Prelude.{ℕ, suc, Bool, true, false, List, [], ◌∷◌, ◌++◌}
 use Rattle.times.specs.declared.Code.{Code}
 use Rattle.times.specs.declared.ClaimedTime.{ClaimedTime}
 use Rattle.readiness.specs.declared.Slot.{Slot}

@@ -2,7 +2,6 @@
 use Rattle.std.specs.Prelude.{ℕ, ◌-◌, not, List, eqb, drop}
 use Rattle.readiness.specs.declared.Setup.{Setup}
 use Rattle.text_line.specs.Text.{text_if}
-use Rattle.sheet_grammar.specs.declared.SheetRead.{SheetRead}
 use Rattle.sheet_grammar.specs.Layout.{line_from, fault_in}
 use Rattle.sheet_grammar.specs.Reading.{lines_of, sheet_of, place_after}
 use Rattle.describe_sheet.specs.Refusals.{refusal_text}

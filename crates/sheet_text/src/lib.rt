@@ -1,4 +1,6 @@
 // What the commands about time sheets print (02, Q-1), each output as one text.
+#![tactic(auto)]
+
 mod lines; // a line about a file
 mod cards; // a card as a CARD file, with comments
 mod doubts; // where the unit may be wrong

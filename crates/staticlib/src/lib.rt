@@ -1,4 +1,6 @@
 // The static library for the benchmark: a card's text and a trace in, answers and the final state as bytes out.
+#![tactic(auto)]
+
 ghost use Rattle.std.specs.Prelude.{◌≡◌};
 ghost use Rattle.library_run.specs.Run.{shown, run_of};
 

@@ -1,4 +1,6 @@
 // The static library for the benchmark of replay: a card's text and a capture in, answers and the final state as bytes out.
+#![tactic(auto)]
+
 ghost use Rattle.std.specs.Prelude.{◌≡◌};
 ghost use Rattle.library_run.specs.Run.{shown, replay_of};
 

@@ -1,7 +1,7 @@
 -- Lines, fields and numbers, as antt computes them.
 use mathlib.Core.Path.{◌≡◌, refl}
-use mathlib.Core.Bool.{Bool, true, false, cond}
-use mathlib.Core.List.{List, [], ◌∷◌}
+use mathlib.Core.Bool.{true, false}
+use mathlib.Core.List.{[], ◌∷◌}
 use Rattle.bits.specs.Text.{chars}
 use Rattle.text_fields.specs.Text.{in_line, lines_of, is_blank, in_field, run, field_start, field, no_field, digit_of, value_from, width_allowed, number_of, no_number}
 

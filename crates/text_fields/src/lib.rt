@@ -1,4 +1,6 @@
 // Text: lines, the fields of a line, and numbers in fields.
+#![tactic(auto)]
+
 ghost use Rattle.std.specs.Prelude.{◌≡◌, ◌+◌, ◌<◌, ◌≤◌, ◌&&◌, cond, eqb, leb, ltb, length, drop};
 ghost use Rattle.text_fields.specs.Text.{in_line, is_blank, in_field, run_end, field_start, field_end, field, no_field, same, no_number, base_of, digit_of, width_allowed, number_of, number_at};
 

@@ -1,5 +1,5 @@
 -- The first bad character: what stands before it starts some hex text, and with it no hex text starts.
-use Rattle.std.proofs.Common.{◌≡◌, ℕ, zero, suc, ◌+◌, ◌<◌, Bool, true, false, List, [], ◌∷◌, ◌++◌, length, take, sym, refl, ◌∙◌, subst, one-add, arith}
+use Rattle.std.proofs.Common.{◌≡◌, ℕ, zero, suc, ◌<◌, true, false, List, [], ◌∷◌, ◌++◌, length, take, sym, refl, ◌∙◌, subst, one-add, arith}
 use Rattle.bits.proofs.Tests.{not_both}
 use Rattle.text_hex.specs.declared.Within.{Within}
 use Rattle.text_hex.specs.declared.Within.TheVariants.{Gap, Byte, Comment}

@@ -1,5 +1,5 @@
 -- Two pieces packed one after the other are their join packed.
-use Rattle.std.proofs.Common.{◌≡◌, ℕ, zero, suc, ◌+◌, ◌-◌, Bool, true, false, List, [], ◌∷◌, ◌++◌, length, drop, refl, ap, ◌∙◌, suc-add, zero-add, one-add}
+use Rattle.std.proofs.Common.{◌≡◌, ℕ, zero, suc, ◌+◌, Bool, true, false, List, [], ◌∷◌, ◌++◌, length, drop, refl, ap, ◌∙◌, suc-add, zero-add, one-add}
 use lib.Seq.{drop-length}
 use Rattle.text_hex.specs.declared.Within.TheVariants.{Gap}
 use Rattle.text_hex.specs.declared.Turn.{Turn}

@@ -154,7 +154,7 @@ back_in_line c e (at_last {line} h) = at_last (both (not (is_line_end c)) (in_on
 hex_of : {text bytes : List ℕ} → Rest Gap text bytes → HexText text bytes
 hex_of (at_gap r) = r
 
-back_goes : {w v : Within} {c : ℕ} {text bytes : List ℕ} → Does w c (Goes v) → Rest v text bytes → Rest w (c ∷ text) bytes
+back_goes : {w : Within} {c : ℕ} {v : Within} {text bytes : List ℕ} → Does w c (Goes v) → Rest v text bytes → Rest w (c ∷ text) bytes
 back_goes {c = c} (digit e) r = at_gap (back_digit c e r)
 back_goes (space e) r = at_gap (blank e (hex_of r))
 back_goes {c = c} (hash e) r = at_gap (back_hash c e r)

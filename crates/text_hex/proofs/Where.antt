@@ -1,5 +1,5 @@
 -- The line and the column that the packing counts are those of the next character.
-use Rattle.std.proofs.Common.{◌≡◌, ℕ, zero, suc, ◌+◌, ◌-◌, ◌^◌, ◌<◌, ◌≤◌, Bool, true, false, cond, not, List, [], ◌∷◌, length, take, sym, refl, ap, ◌∙◌, mod-eq_of_lt, one-add, arith}
+use Rattle.std.proofs.Common.{◌≡◌, ℕ, zero, suc, ◌+◌, ◌^◌, ◌<◌, ◌≤◌, Bool, true, false, cond, not, List, [], ◌∷◌, length, take, sym, refl, ap, ◌∙◌, mod-eq_of_lt, one-add, arith}
 use borrow.Author.Tests.{not-true}
 use Rattle.bits.proofs.Tests.{both_left, both_right}
 use Rattle.text_hex.specs.declared.Within.{Within}

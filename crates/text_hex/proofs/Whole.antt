@@ -1,6 +1,6 @@
 -- The packing and the grammar: a hex text is packed whole, into its bytes, and what is packed whole is hex text. The first bad
 -- character is the first with which no hex text goes on.
-use Rattle.std.proofs.Common.{◌≡◌, ℕ, zero, suc, ◌+◌, ◌≤◌, true, false, not, List, [], ◌∷◌, ◌++◌, length, refl, ap, ◌∙◌, subst, one-add, arith}
+use Rattle.std.proofs.Common.{◌≡◌, ℕ, zero, suc, ◌≤◌, true, false, not, List, [], ◌∷◌, ◌++◌, length, refl, ap, ◌∙◌, subst, one-add, arith}
 use Rattle.bits.proofs.Tests.{both_right}
 use Rattle.text_hex.specs.declared.Within.{Within}
 use Rattle.text_hex.specs.declared.Within.TheVariants.{Gap, Byte, Comment}

@@ -1,4 +1,6 @@
 // Hex text to bytes, piece by piece: a byte is two hex digits; blanks, line ends and comments stand between bytes.
+#![tactic(auto)]
+
 ghost use Rattle.std.specs.Prelude.{◌≡◌};
 ghost use Rattle.text_hex.specs.Text.{is_digit, separates as separates_of, byte_of, in_gap, in_byte, in_comment, turn_of};
 ghost use Rattle.text_hex.specs.Packing.{start as start_of, one_more, is_between, is_whole, past as past_of, spoiled, stops_at, passes, puts, step_by, step_of, left, leaves};
@@ -7,7 +9,7 @@ ghost use Rattle.text_hex.specs.inner.Room.{placed, held};
 use text_fields::{NO_DIGIT, digit_of, is_blank};
 
 // What the next character stands in.
-#[derive(Drop)]
+#[derive(Clone, Copy)]
 pub enum Within {
     // Between two bytes.
     Gap,
@@ -18,7 +20,7 @@ pub enum Within {
 }
 
 // How far a text is packed: what the next character stands in, whether it is a bad one, and its line and column, counted from 1.
-#[derive(Drop)]
+#[derive(Clone, Copy)]
 pub struct Packing {
     pub within: Within,
     pub bad: bool,
@@ -27,7 +29,7 @@ pub struct Packing {
 }
 
 // What a call packed: how far the text is packed now, how many characters were consumed, and how many bytes stand in the room.
-#[derive(Drop)]
+#[derive(Clone, Copy)]
 pub struct Packed {
     pub after: Packing,
     pub consumed: usize,
@@ -35,7 +37,7 @@ pub struct Packed {
 }
 
 // What a character does.
-#[derive(Drop)]
+#[derive(Clone, Copy)]
 enum Turn {
     // The next one stands in this.
     Goes(Within),
@@ -46,7 +48,7 @@ enum Turn {
 }
 
 // What a character does in a room: whether the packing stops before it, whether it completes a byte, and which.
-#[derive(Drop)]
+#[derive(Clone, Copy)]
 struct Step {
     stops: bool,
     gives: bool,

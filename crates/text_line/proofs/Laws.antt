@@ -7,11 +7,11 @@ use native.Mathlib.Omega.{arith}
 use native.Mathlib.Nat.{mod-lt, div-lt_iff_lt-mul, pow-suc, div-add-mod'}
 use native.Mathlib.Numerals.{add-one}
 use borrow.Author.Tests.{ltb-true, ltb-false, lt-ltb, le-ltb, eqb-true}
-use lib.Dec.{ltb, eqb, T}
+use lib.Dec.{ltb, eqb}
 use lib.ListN.{length, take, drop, set, length-set, take-append-drop, drop_of_length-le}
 use lib.Seq.{take_all, take-nil, append_snoc, take-suc-set, drop-set-lt}
 use Rattle.text_fields.specs.Text.{no_digit, base_of, digit_of, value_from}
-use Rattle.text_line.specs.Line.{Lined, lined, put_byte, puts, Put}
+use Rattle.text_line.specs.Line.{lined, put_byte, puts, Put}
 use Rattle.text_line.specs.Text.{glyph_of, hex_of, decimal_from}
 use Rattle.bits.proofs.Tests.{all_at, is_true}
 

@@ -1,16 +1,18 @@
 // The recorder's clock: stamps, differences of stamps in ticks, and the one way from ticks to nanoseconds. The fields are private: only
 // this crate makes one of another.
+#![tactic(auto)]
+
 ghost use Rattle.std.specs.Prelude.{◌≡◌};
 ghost use Rattle.ticks.specs.Ticks.{difference as difference_of, went_back, in_nanos};
 
 use times::Nanos;
 
 // What the recorder's clock shows: a count of ticks that wraps to 0.
-#[derive(Drop)]
+#[derive(Clone, Copy)]
 pub struct Stamp(u32);
 
 // The difference of two stamps, in ticks.
-#[derive(Drop)]
+#[derive(Clone, Copy)]
 pub struct Ticks(u32);
 
 // The stamp with this number.
@@ -42,6 +44,7 @@ pub fn difference(earlier: Stamp, stamp: Stamp) -> Ticks
 }
 
 // Whether the recorder went back: 2^31 ticks or more.
+#[tactic(auto, unfolding(crate::specs::Ticks::went_back))]
 pub fn went_back(d: Ticks) -> bool
     ensures { result ≡ went_back d }
 {
@@ -49,6 +52,7 @@ pub fn went_back(d: Ticks) -> bool
 }
 
 // The time of a difference, at 4 ns a tick: the one way from ticks to nanoseconds.
+#[tactic(auto, unfolding(crate::specs::Ticks::in_nanos))]
 pub fn in_nanos(d: Ticks) -> Nanos
     ensures { result ≡ in_nanos d }
 {

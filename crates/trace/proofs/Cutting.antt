@@ -9,7 +9,7 @@ use lib.Seq.{append_snoc, take-append-le, drop-append-le, take_at, drop_at}
 use lib.Dec.{leb}
 use borrow.Author.Tests.{le-leb, lt-leb, leb-true}
 use Rattle.bits.proofs.Tests.{both_left, both_right}
-use Rattle.trace.specs.Format.{if◌then◌else◌, known, body, whole}
+use Rattle.trace.specs.Format.{when◌then◌else◌, known, body, whole}
 use Rattle.trace.specs.Bench.{Cut, front, uncut, cut_in, cut}
 use Rattle.trace.specs.Feed.{kind_at}
 
@@ -31,15 +31,15 @@ stable (suc n) zero [] h j = refl
 stable (suc n) zero (k ∷ rest) h j = absurd (omega arith)
 stable (suc n) (suc m) [] h j = refl
 stable (suc n) (suc m) (k ∷ rest) h j =
-    ap (λ (z : Cut). if whole k rest then front (k ∷ take (body k) rest) z else uncut (k ∷ rest))
+    ap (λ (z : Cut). when whole k rest then front (k ∷ take (body k) rest) z else uncut (k ∷ rest))
     (stable n m (drop (body k) rest) (omega (arith, length-drop (body k) rest)) (omega (arith, length-drop (body k) rest)))
 
 -- `cut` by its first record, with no bound
 cut_cons : (k : ℕ) (rest : List ℕ)
-    → cut (k ∷ rest) ≡ (if whole k rest then front (k ∷ take (body k) rest) (cut (drop (body k) rest)) else uncut (k ∷ rest))
+    → cut (k ∷ rest) ≡ (when whole k rest then front (k ∷ take (body k) rest) (cut (drop (body k) rest)) else uncut (k ∷ rest))
 unfolding cut cut_in
 cut_cons k rest =
-    ap (λ (z : Cut). if whole k rest then front (k ∷ take (body k) rest) z else uncut (k ∷ rest))
+    ap (λ (z : Cut). when whole k rest then front (k ∷ take (body k) rest) z else uncut (k ∷ rest))
     (stable (length rest) (length (drop (body k) rest)) (drop (body k) rest) (omega (arith, length-drop (body k) rest)) (omega arith))
 
 pub cut-whole : (k : ℕ) (rest : List ℕ) → whole k rest ≡ true

@@ -8,7 +8,7 @@ use lib.ListN.{length, get_or, take, replicate}
 use lib.Dec.{leb, eqb}
 use borrow.Author.Tests.{le-leb, ne_eqb}
 use Rattle.bits.proofs.Tests.{both_right}
-use Rattle.trace.specs.Format.{if◌then◌else◌, size_of, known, body, whole, begun, pad, Bytes}
+use Rattle.trace.specs.Format.{when◌then◌else◌, size_of, known, body, whole, begun, pad, Bytes}
 use Rattle.trace.specs.Bench.{Ran, Device, cut_in, cut, runs, plain}
 use Rattle.trace.specs.Outcome.{Outcome, unknown_next, scan, outcome, outcome_of}
 use Rattle.trace.specs.Feed.{byte, feed_open}
@@ -85,7 +85,7 @@ abbrev lent : Lent ℕ Port
 lent =
     record {
       device = toy;
-      set_up = λ h. if eqb h.state 0 then 3 else 0;
+      set_up = λ h. when eqb h.state 0 then 3 else 0;
       sound = λ h. leb h.count 16 && begun (take h.count h.carried);
       view = λ h. record { state = h.state; carried = take h.count h.carried; broken = h.broken };
       keep = λ p. record { state = p.state; carried = pad 16 p.carried; count = length p.carried; broken = p.broken };
@@ -99,7 +99,7 @@ positive : (s : ℕ) → eqb s 0 ≡ false → 0 < s
 positive zero e = absurd (true≢false e)
 positive (suc s) e = omega arith
 
-set_up_good : (s : ℕ) → ◌≡◌ {A = ℕ} (if eqb s 0 then 3 else 0) 0 → Good s
+set_up_good : (s : ℕ) → ◌≡◌ {A = ℕ} (when eqb s 0 then 3 else 0) 0 → Good s
 set_up_good zero e = absurd (omega arith)
 set_up_good (suc s) e = ne_eqb (suc s) 0 (λ q. omega arith)
 

@@ -1,7 +1,7 @@
 -- What holds of traces, outcomes and lists of calls, for any device.
-use Prim.Native.Nat.{ℕ, zero, suc, ◌-◌, ◌*◌, ◌≤◌, ◌<◌}
+use Prim.Native.Nat.{ℕ, zero, suc, ◌-◌, ◌*◌, ◌≤◌}
 use mathlib.Core.Path.{◌≡◌, refl, ap, sym, ◌∙◌}
-use mathlib.Core.Bool.{Bool, true, false, ◌&&◌, ◌||◌, true≢false}
+use mathlib.Core.Bool.{Bool, true, false, ◌&&◌, true≢false}
 use mathlib.Core.List.{List, [], ◌∷◌, ◌++◌, append_assoc}
 use native.Mathlib.Omega.{arith}
 use native.Mathlib.Nat.{sub-zero}
@@ -11,7 +11,7 @@ use lib.Seq.{length-take-le, take-take, take_at, drop_at}
 use lib.Dec.{leb}
 use borrow.Author.Tests.{le-leb, lt-leb}
 use Rattle.bits.proofs.Tests.{split}
-use Rattle.trace.specs.Format.{if◌then◌else◌, known, body, whole, complete, incomplete, unknown, next, begun}
+use Rattle.trace.specs.Format.{when◌then◌else◌, known, body, whole, complete, incomplete, unknown, next, begun}
 use Rattle.trace.specs.Bench.{Device, Bench, Benched, Cut, front, uncut, cut, runs, plain}
 use Rattle.trace.specs.Feed.{Fed, feed_open}
 use Rattle.trace.specs.inner.OneCall.{feed}
@@ -42,7 +42,7 @@ no_front : (k : ℕ) (rest r : List ℕ) → whole k rest ≡ false → next (k 
 unfolding next whole
 no_front k rest r e q = go (known k) (leb (body k) (length rest)) e q
   where
-    go : (x y : Bool) → (x && y) ≡ false → (if x then (if y then complete (k ∷ take (body k) rest) else incomplete) else unknown) ≡ complete r → ⊥
+    go : (x y : Bool) → (x && y) ≡ false → (when x then (when y then complete (k ∷ take (body k) rest) else incomplete) else unknown) ≡ complete r → ⊥
     go true true e q = true≢false e
     go true false e q = let z : ◌≡◌ {A = ℕ} 0 1 = cc in omega arith
     go false y e q = let z : ◌≡◌ {A = ℕ} 0 1 = cc in omega arith

@@ -10,7 +10,7 @@ use lib.ListN.{length, get_or, take, drop, length-append, length-take}
 use lib.Seq.{append_snoc, split_at, take-suc, take-take, take-nil, length-take-le}
 use lib.Dec.{leb}
 use borrow.Author.Tests.{leb-true, leb-false}
-use Rattle.trace.specs.Format.{if◌then◌else◌, known, body, complete, incomplete, unknown, next}
+use Rattle.trace.specs.Format.{when◌then◌else◌, known, body, complete, incomplete, unknown, next}
 use Rattle.trace.specs.Bench.{Device, Bench}
 use Rattle.trace.specs.Feed.{kind_at, Fed, stopped, later, feed_open}
 use Rattle.trace.proofs.Cutting.{Partial}
@@ -35,7 +35,7 @@ pub record Complete (bs r : List ℕ) : Type 0 where
   pub fits : body (kind_at bs 0) < length bs
 
 complete_is : (k : ℕ) (rest r : List ℕ) (x y : Bool) → known k ≡ x → leb (body k) (length rest) ≡ y
-    → (if x then (if y then complete (k ∷ take (body k) rest) else incomplete) else unknown) ≡ complete r → Complete (k ∷ rest) r
+    → (when x then (when y then complete (k ∷ take (body k) rest) else incomplete) else unknown) ≡ complete r → Complete (k ∷ rest) r
 complete_is k rest r true true ex ey e = record { kind = ex; is = cc; fits = omega (arith, leb-true (body k) (length rest) ey) }
 complete_is k rest r true false ex ey e = absurd (let z : ◌≡◌ {A = ℕ} 0 1 = cc in omega arith)
 complete_is k rest r false y ex ey e = absurd (let z : ◌≡◌ {A = ℕ} 0 1 = cc in omega arith)
@@ -46,7 +46,7 @@ complete_at [] r e = absurd (let z : ◌≡◌ {A = ℕ} 0 1 = cc in omega arith
 complete_at (k ∷ rest) r e = complete_is k rest r _ _ refl refl e
 
 partial_is : (k : ℕ) (rest : List ℕ) (x y : Bool) → known k ≡ x → leb (body k) (length rest) ≡ y
-    → (if x then (if y then complete (k ∷ take (body k) rest) else incomplete) else unknown) ≡ incomplete → Partial (k ∷ rest)
+    → (when x then (when y then complete (k ∷ take (body k) rest) else incomplete) else unknown) ≡ incomplete → Partial (k ∷ rest)
 partial_is k rest true false ex ey e = (ex, leb-false (body k) (length rest) ey)
 partial_is k rest true true ex ey e = absurd (let z : ◌≡◌ {A = ℕ} 0 1 = cc in omega arith)
 partial_is k rest false y ex ey e = absurd (let z : ◌≡◌ {A = ℕ} 0 1 = cc in omega arith)
@@ -57,7 +57,7 @@ incomplete_at [] e = tt
 incomplete_at (k ∷ rest) e = partial_is k rest _ _ refl refl e
 
 unknown_is : (k : ℕ) (rest : List ℕ) (x y : Bool) → known k ≡ x
-    → (if x then (if y then complete (k ∷ take (body k) rest) else incomplete) else unknown) ≡ unknown → known k ≡ false
+    → (when x then (when y then complete (k ∷ take (body k) rest) else incomplete) else unknown) ≡ unknown → known k ≡ false
 unknown_is k rest false y ex e = ex
 unknown_is k rest true true ex e = absurd (let z : ◌≡◌ {A = ℕ} 0 1 = cc in omega arith)
 unknown_is k rest true false ex e = absurd (let z : ◌≡◌ {A = ℕ} 0 1 = cc in omega arith)

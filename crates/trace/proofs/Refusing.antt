@@ -1,11 +1,12 @@
 -- A call by its refusal, and lists of calls that are refused.
 use Prim.Native.Nat.{ℕ, zero, suc}
 use mathlib.Core.Path.{◌≡◌, refl, ap, sym, ◌∙◌}
-use mathlib.Core.Bool.{Bool, true, false}
+use mathlib.Core.Bool.{Bool, true, false, ◌||◌}
 use mathlib.Core.List.{List, [], ◌∷◌}
 use native.Mathlib.Omega.{arith}
 use lib.ListN.{length}
-use Rattle.trace.specs.Format.{if◌then◌else◌}
+use lib.Dec.{eqb}
+use Rattle.trace.specs.Format.{when◌then◌else◌}
 use Rattle.trace.specs.Bench.{Device}
 use Rattle.trace.specs.Outcome.{Outcome, nothing, first, outcome_of}
 use Rattle.trace.specs.Feed.{feed_open}
@@ -18,22 +19,22 @@ module _ {S H : Type 0} (L : Lent S H) where
   -- a refused set-up gives its number, sound or not
   pub refusal_set_up : (h : H) (n : ℕ) → L.set_up h ≡ suc n → refusal L h ≡ suc n
   unfolding refusal
-  refusal_set_up h n e = ap (λ (m : ℕ). first m (if L.sound h then 0 else 5)) e
+  refusal_set_up h n e = ap (λ (m : ℕ). first m (when L.sound h then 0 else 5)) e
 
   pub refusal_unsound : (h : H) → L.set_up h ≡ 0 → L.sound h ≡ false → refusal L h ≡ 5
   unfolding refusal
-  refusal_unsound h e f = ap (λ (m : ℕ). first m (if L.sound h then 0 else 5)) e ∙ if_false (L.sound h) 0 5 f
+  refusal_unsound h e f = ap (λ (m : ℕ). first m (when L.sound h then 0 else 5)) e ∙ if_false (L.sound h) 0 5 f
 
   pub refusal_none : (h : H) → L.set_up h ≡ 0 → L.sound h ≡ true → refusal L h ≡ 0
   unfolding refusal
-  refusal_none h e f = ap (λ (m : ℕ). first m (if L.sound h then 0 else 5)) e ∙ if_true (L.sound h) 0 5 f
+  refusal_none h e f = ap (λ (m : ℕ). first m (when L.sound h then 0 else 5)) e ∙ if_true (L.sound h) 0 5 f
 
   -- what is not refused is set up and sound
   pub refusal_accepted : (h : H) → refusal L h ≡ 0 → (L.set_up h ≡ 0) × (L.sound h ≡ true)
   unfolding refusal
   refusal_accepted h e = go _ _ refl refl e
     where
-      go : (n : ℕ) (t : Bool) → L.set_up h ≡ n → L.sound h ≡ t → first n (if t then 0 else 5) ≡ 0 → (L.set_up h ≡ 0) × (L.sound h ≡ true)
+      go : (n : ℕ) (t : Bool) → L.set_up h ≡ n → L.sound h ≡ t → first n (when t then 0 else 5) ≡ 0 → (L.set_up h ≡ 0) × (L.sound h ≡ true)
       go zero true en et q = (en, et)
       go zero false en et q = absurd (omega arith)
       go (suc n) t en et q = absurd (omega arith)
@@ -41,22 +42,22 @@ module _ {S H : Type 0} (L : Lent S H) where
   -- ---- what stands before a byte is looked at
   pub stops_refused : (h : H) (n : ℕ) → refusal L h ≡ suc n → refusal_or31 L h ≡ suc n
   unfolding refusal_or31
-  stops_refused h n e = ap (λ (m : ℕ). first m (if (L.view h).broken then 31 else 0)) e
+  stops_refused h n e = ap (λ (m : ℕ). first m (when (L.view h).broken then 31 else 0)) e
 
   pub stops_broken : (h : H) → refusal L h ≡ 0 → (L.view h).broken ≡ true → refusal_or31 L h ≡ 31
   unfolding refusal_or31
-  stops_broken h e b = ap (λ (m : ℕ). first m (if (L.view h).broken then 31 else 0)) e ∙ if_true (L.view h).broken 31 0 b
+  stops_broken h e b = ap (λ (m : ℕ). first m (when (L.view h).broken then 31 else 0)) e ∙ if_true (L.view h).broken 31 0 b
 
   pub stops_not : (h : H) → refusal L h ≡ 0 → (L.view h).broken ≡ false → refusal_or31 L h ≡ 0
   unfolding refusal_or31
-  stops_not h e b = ap (λ (m : ℕ). first m (if (L.view h).broken then 31 else 0)) e ∙ if_false (L.view h).broken 31 0 b
+  stops_not h e b = ap (λ (m : ℕ). first m (when (L.view h).broken then 31 else 0)) e ∙ if_false (L.view h).broken 31 0 b
 
   -- what goes on to look at bytes is not refused, and not broken
   pub goes_on : (h : H) → refusal_or31 L h ≡ 0 → (refusal L h ≡ 0) × ((L.view h).broken ≡ false)
   unfolding refusal_or31
   goes_on h e = go _ _ refl refl e
     where
-      go : (n : ℕ) (t : Bool) → refusal L h ≡ n → (L.view h).broken ≡ t → first n (if t then 31 else 0) ≡ 0 → (refusal L h ≡ 0) × ((L.view h).broken ≡ false)
+      go : (n : ℕ) (t : Bool) → refusal L h ≡ n → (L.view h).broken ≡ t → first n (when t then 31 else 0) ≡ 0 → (refusal L h ≡ 0) × ((L.view h).broken ≡ false)
       go zero false en et q = (en, et)
       go zero true en et q = absurd (omega arith)
       go (suc n) t en et q = absurd (omega arith)
@@ -91,4 +92,4 @@ module _ {S H : Type 0} (L : Lent S H) where
   pub refused_outcomes : (D : Device S) (n : ℕ) (s : S) (broken : Bool) (done : List ℕ) (cs : List Call) → all_give (suc n) cs ≡ expected_from D (suc n) s broken done cs
   unfolding expected_from outcome_of
   refused_outcomes D n s broken done [] = refl
-  refused_outcomes D n s broken done (c ∷ cs) = ap (λ (os : List Outcome). nothing (suc n) ∷ os) (refused_outcomes D n s _ _ cs)
+  refused_outcomes D n s broken done (c ∷ cs) = ap (λ (os : List Outcome). nothing (suc n) ∷ os) (refused_outcomes D n s (broken || eqb (suc n) 31) _ cs)

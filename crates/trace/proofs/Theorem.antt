@@ -43,7 +43,7 @@ pub expected-numbers : {S : Type 0} (D : Device S) (s : S) (broken : Bool) (done
 unfolding expected_from outcome_of
 expected-numbers D s broken done [] n h j = refl
 expected-numbers D s broken done (c ∷ cs) n h j =
-    rw (outcome-number (plain D s done).carried broken c.input (length c.answers) n h j) (expected-numbers D s _ _ cs n h j)
+    rw (outcome-number (plain D s done).carried broken c.input (length c.answers) n h j) (expected-numbers D s (broken || eqb (outcome_of 0 (plain D s done).carried broken c.input (length c.answers)).number 31) _ cs n h j)
 
 -- ---- answers laid into slices
 laid : (w : ℕ) (a more x s : List ℕ) → length a ≡ w → x ≡ a ++ drop w s → (xs : List (List ℕ)) (os : List Outcome) (ss : List (List ℕ)) → xs ≡ placed more os ss

@@ -1,7 +1,7 @@
 -- The plain bench: one trace, cut into records from the front. Each whole record runs and gives its 8 bytes; an incomplete
 -- last one is carried and does nothing else.
 use Rattle.std.specs.Prelude.{ℕ, zero, suc, ◌≡◌, Bool, List, [], ◌∷◌, ◌++◌, length, take, drop}
-use Rattle.trace.specs.Format.{if◌then◌else◌, body, whole}
+use Rattle.trace.specs.Format.{when◌then◌else◌, body, whole}
 
 -- ---- The device
 -- what one record does: the device after it, and its answer's bytes
@@ -38,7 +38,7 @@ unfoldable pub cut_in : ℕ → List ℕ → Cut
 cut_in zero bs = uncut bs
 cut_in (suc n) [] = uncut []
 cut_in (suc n) (kind ∷ rest) =
-    if whole kind rest then front (kind ∷ take (body kind) rest) (cut_in n (drop (body kind) rest)) else uncut (kind ∷ rest)
+    when whole kind rest then front (kind ∷ take (body kind) rest) (cut_in n (drop (body kind) rest)) else uncut (kind ∷ rest)
 
 -- no trace has more records than bytes
 unfoldable pub cut : List ℕ → Cut

@@ -1,6 +1,6 @@
 -- One call at an accepted bench, byte by byte.
 use Rattle.std.specs.Prelude.{ℕ, ◌+◌, ◌-◌, true, false, List, [], ◌∷◌, ◌++◌, length, ltb}
-use Rattle.trace.specs.Format.{if◌then◌else◌, known, body}
+use Rattle.trace.specs.Format.{when◌then◌else◌, known, body}
 use Rattle.trace.specs.Bench.{Device, Ran, Bench}
 
 -- what one call comes to: the bench after it, its number, how many bytes it consumed, and the answers that it wrote, joined
@@ -44,7 +44,7 @@ module _ {S : Type 0} (D : Device S) where
 
   -- a record's last byte runs it; with fewer than 8 answer bytes left it gives 30 and isn't consumed
   abbrev pub ends_record : Bench S → ℕ → ℕ → Step S
-  ends_record p room b = if ltb room 8 then stop 30 p else ran_with (D.run p.state (p.carried ++ b ∷ []))
+  ends_record p room b = when ltb room 8 then stop 30 p else ran_with (D.run p.state (p.carried ++ b ∷ []))
 
   -- an unknown kind gives 31, whatever the room is, and isn't consumed; the trace stays broken
   abbrev pub breaks : Bench S → Step S
@@ -54,8 +54,8 @@ module _ {S : Type 0} (D : Device S) where
   unfoldable pub byte : Bench S → ℕ → ℕ → Step S
   byte p room b =
       let kind = kind_at p.carried b in
-      if known kind
-      then (if ltb (length p.carried) (body kind) then carries_on p b else ends_record p room b)
+      when known kind
+      then (when ltb (length p.carried) (body kind) then carries_on p b else ends_record p room b)
       else breaks p
 
   -- ONE CALL that isn't refused, at an unbroken bench: byte by byte, until a byte ends it or none is left

@@ -3,10 +3,10 @@ use Rattle.std.specs.Prelude.{ℕ, ◌-◌, Bool, true, false, ◌&&◌, List, [
 -- each number of a list is a byte
 pub use Rattle.bits.specs.Bytes.{Bytes}
 
-infixr 10 if◌then◌else◌
-abbrev pub if◌then◌else◌ : {A : Type 0} → Bool → A → A → A
-if◌then◌else◌ true a b = a
-if◌then◌else◌ false a b = b
+infixr 10 when◌then◌else◌
+abbrev pub when◌then◌else◌ : {A : Type 0} → Bool → A → A → A
+when◌then◌else◌ true a b = a
+when◌then◌else◌ false a b = b
 
 -- ---- The table of kinds
 -- How many bytes a record has, its byte of kind with them, by kind; 0 where there is no such kind.
@@ -43,7 +43,7 @@ whole kind rest = known kind && leb (body kind) (length rest)
 unfoldable pub next : List ℕ → Next
 next [] = incomplete
 next (kind ∷ rest) =
-    if known kind then (if leb (body kind) (length rest) then complete (kind ∷ take (body kind) rest) else incomplete) else unknown
+    when known kind then (when leb (body kind) (length rest) then complete (kind ∷ take (body kind) rest) else incomplete) else unknown
 
 -- the start of one incomplete record, or nothing: what carried bytes must be (else 5)
 unfoldable pub begun : List ℕ → Bool

@@ -1,6 +1,6 @@
 -- A call of feed on what the caller lends: refusals, and every lent byte afterwards.
 use Rattle.std.specs.Prelude.{ℕ, zero, suc, ◌≡◌, Bool, false, List, [], ◌++◌, length, drop}
-use Rattle.trace.specs.Format.{if◌then◌else◌}
+use Rattle.trace.specs.Format.{when◌then◌else◌}
 use Rattle.trace.specs.Bench.{Device, Bench}
 use Rattle.trace.specs.Outcome.{Outcome, first}
 use Rattle.trace.specs.Feed.{Fed, feed_open}
@@ -41,11 +41,11 @@ unless (suc n) f x = f (suc n)
 module _ {S H : Type 0} (L : Lent S H) where
   -- 0, or the first of 1 to 5 that applies
   unfoldable pub refusal : H → ℕ
-  refusal h = first (L.set_up h) (if L.sound h then 0 else 5)
+  refusal h = first (L.set_up h) (when L.sound h then 0 else 5)
 
   -- 0, or the number given before a byte is looked at: 31, if the trace is broken, comes after 1 to 5
   unfoldable pub refusal_or31 : H → ℕ
-  refusal_or31 h = first (refusal h) (if (L.view h).broken then 31 else 0)
+  refusal_or31 h = first (refusal h) (when (L.view h).broken then 31 else 0)
 
   -- the answers stand at the front of their slice; the bytes beyond them stay
   abbrev pub leaves : Fed S → List ℕ → Left H

@@ -8,7 +8,7 @@
 -- to (Calls.calls): the consumed bytes, joined; the answers, joined; each call's number and counts; each answers slice; and
 -- the memory after the last one. Any bytes may be an input, cut anywhere; a slice may have any length.
 use Rattle.std.specs.Prelude.{ℕ, suc, ◌<◌, ◌≡◌, ◌||◌, List, ◌++◌, length}
-use Rattle.trace.specs.Bench.{Bench, plain}
+use Rattle.trace.specs.Bench.{plain}
 use Rattle.trace.specs.Lent.{Lent, refusal, refusal_or31, Start}
 use Rattle.trace.specs.Calls.{Call, Came, slices_of, gave, beyond, placed, all_refused, expected, bench_after}
 

@@ -1,4 +1,6 @@
 // What two calls on one lent memory come to, for the caller that made them.
+#![tactic(auto)]
+
 ghost use Rattle.std.specs.Prelude.{◌≡◌};
 
 use bench::Outcome;
@@ -6,7 +8,7 @@ use readiness::Status;
 use records::Port;
 
 // What two calls gave, and the memory after them.
-#[derive(Drop)]
+#[derive(Clone, Copy)]
 pub struct Both {
     pub first: Outcome,
     pub second: Outcome,

@@ -1,11 +1,10 @@
 -- Two theorems for every declared struct T of plain data: of the total functions that read an element of a `&[T]`, and that write one of a `&mut [T]`,
---     fn at_else(s: &[T], i: usize, d: T) -> T { if i < s.len() { return s[i]; } d }      ensures ⌜ r ≡ get_or (now s.entry) i d ⌝
---     fn put_if(s: &mut [T], i: usize, v: T) { if i < s.len() { s[i] = v; } }             ensures ⌜ now s.exit ≡ set (now s.entry) i v ⌝
+--     fn at_else(s: &[T], i: usize, d: T) -> T { if i < s.len() { return s[i]; } d }      ensures { result ≡ get_or s.now i d }
+--     fn put_if(s: &mut [T], i: usize, v: T) { if i < s.len() { s[i] = v; } }             ensures { s.new ≡ set s.old i v }
 -- They ask nothing. `function` is the MIR that the compiler makes of such a body, over T: a crate's own MIR is it by computation. So a crate cites `else_meets` or `put_if_meets` in its proof, and walks nothing.
 -- What they take of T beside its laws is, at any T that is written out, `λ w. tt` and `λ κs x f. refl`: nothing is bound and nothing said of a value of it at exit.
 -- It says nothing of the crate, and can be copied as it stands.
 -- Assumes `Logic`.
--- Written by `tools/walks/write walk_rules Total`.
 use mathlib.Core.Path.{◌≡◌, refl, sym, ap, subst}
 use Prim.Native.Nat.{ℕ, ◌<◌, ◌^◌, ◌*◌}
 use native.Mathlib.Nat.{mul-le-mul_right, lt_of_le_of_lt, lt_trans, le_of_lt}
@@ -14,7 +13,7 @@ use lib.ListN.{length, get_or, set, length-set, get_or-eq_default}
 use lib.Seq.{set_out}
 use lib.Dec.{lit<, ltb, ltb→lt, nltb→le, T as Holds}
 use seplogic.Ra.Ura.{Ura}
-use seplogic.Ra.TreeShare.{full_share}
+use base.Fraction.{full_share}
 use mir.Syntax.{Ty, Fn, Body, named, imm, mut, w64, ty_int, ty_ptr, ty_bool, ty_unit, ty_ref, deref, field as field_step, place, copy as copy_opd, int, opd_unit, local, value_local, seq, assign, cond, skip, return, rv_opd, op2, mul, lt, unsigned, offset}
 use mir.Val.{Val, vint, vptr, vunit}
 use base.Logic.{SProp, ent, emp, via, fst∗}
@@ -84,6 +83,8 @@ module _ (T : Declared) (L : LL.Laws T) (pl : Plains (fields T)) (small : Holds 
   else_function = record {
     lifetimes = 1;
     outlives = [];
+    ty_params = [];
+    givens = 0;
     params = 3;
     locals = local τ value_local ∷ local shr_slice value_local ∷ local (ty_int w64) value_local ∷ local τ value_local ∷ local (ty_int w64) value_local ∷ local ty_bool value_local ∷ local (ty_int w64) value_local ∷ local ty_ptr value_local ∷ local τ value_local ∷ [];
     body = seq (assign (place 4 []) (rv_opd (copy_opd (place 1 (field_step 1 ∷ [])))))
@@ -102,14 +103,14 @@ module _ (T : Declared) (L : LL.Laws T) (pl : Plains (fields T)) (small : Holds 
   abbrev else_clauses : {M : Type 1} (𝓤 : Ura M) → Clauses 𝓤 else_ended
   else_clauses 𝓤 κs a = record { ghost = Unit {0}; requires = λ _. emp 𝓤; ensures = λ _ r _. fact 𝓤 (r ≡ get_or a.0.now a.1.0 a.1.1.0) }
 
-  module _ (cp : LL.Copyables T.parts) {M : Type 1} {𝓤 : Ura M} (𝓛 : Logic 𝓤) (κ : Lft) (q : Share) (b o : ℕ) (γ : GName) (ys : List D) (i : ℕ) (d : D) (last : (w : D) → Last (R.exit kept) w) where
+  module _ (cp : LL.Copyables T.parts) {M : Type 1} {𝓤 : Ura M} (𝓛 : Logic 𝓤) (κ : Lft) (q : Share) (b o : ℕ) (ys : List D) (i : ℕ) (d : D) (last : (w : D) → Last (R.exit kept) w) where
     open 𝓛 use {H}
 
     abbrev Arg : Type 0
-    Arg = MutBor (List D) × (ℕ × (D × Unit {0}))
+    Arg = Bor (List D) × (ℕ × (D × Unit {0}))
 
     abbrev x : Arg
-    x = (record { ref_ptr = (b, o); ghost_name = γ; now = ys }, (i, (d, tt)))
+    x = (record { ref_ptr = (b, o); now = ys }, (i, (d, tt)))
 
     abbrev at : List Val × (List Val × (List Val × Unit {0}))
     at = (slice_val (b, o) (length ys) ∷ [], (vint w64 i ∷ [], (vals d, tt)))
@@ -153,12 +154,10 @@ module _ (T : Declared) (L : LL.Laws T) (pl : Plains (fields T)) (small : Holds 
         move ! (1 ∷ []) $
         fsplit ! $
         drop ! $
-        fsplit ! $
-        drop ! $
         move ! (20 ∷ []) $
         split ! $
         move ! (2 ∷ 0 ∷ []) $
-        looks_slice ! tt R (Is R) (shows 𝓛 R) vals (LL.tells T L) (LL.copy T cp 𝓛) ys b o (λ q'.
+        looks_slice ! tt R (LL.copied T cp 𝓛) ys b o (λ q'.
         elem_out ! R (Is R) (shows 𝓛 R) vals (LL.tells T L) q' ys i d b o (ltb→lt i (length ys) yes) (λ g.
         assigns ! (of_opd ! (load ! (from ! (hop ! (look ! 9 refl) (stop !))) (look_raw ! 0 refl))) (from ! (stop !)) (init ! 7 refl ((LL.lawful T L 𝓛).typed (get_or ys i d) _ g).0) $
         assigns ! (of_opd ! (load ! (from ! (stop !)) (look ! 7 refl))) (from ! (stop !)) (init ! 23 refl ((LL.lawful T L 𝓛).typed (get_or ys i d) _ g).0) $
@@ -240,7 +239,7 @@ module _ (T : Declared) (L : LL.Laws T) (pl : Plains (fields T)) (small : Holds 
       (WpFn 𝓤 𝓛.H 𝓣.C 𝓣.Λ else_function) (WpFn-mono 𝓤 𝓛.H 𝓛.laws 𝓣 else_function)
       (walked 𝓛 else_ended else_stayed (else_clauses 𝓤) (WpFn 𝓤 𝓛.H 𝓣.C 𝓣.Λ else_function) (λ κs. (shr_slice_vals, (uint_vals w64, (vals, tt)))) (λ κs. (shr_slice_Tells (named 0) κs.0 R, (uint_Tells w64, (LL.tells T L, tt))))
       (λ κs qs bounds a g are. via 𝓤 _ (fst∗ 𝓤 _ (emp 𝓤))
-      (walk_else cp 𝓛 κs.0 qs.0 a.0.ref_ptr.0 a.0.ref_ptr.1 a.0.ghost_name a.0.now a.1.0 a.1.1.0 last 𝓣.C 𝓣.Λ are.0.0.1 are.1.0.1 are.1.1.0)))
+      (walk_else cp 𝓛 κs.0 qs.0 a.0.ref_ptr.0 a.0.ref_ptr.1 a.0.now a.1.0 a.1.1.0 last 𝓣.C 𝓣.Λ are.0.0.1 are.1.0.1 are.1.1.0)))
 
   -- ---- `if i < s.len() { s[i] = v; }`
   abbrev put_ended : Ended
@@ -253,6 +252,8 @@ module _ (T : Declared) (L : LL.Laws T) (pl : Plains (fields T)) (small : Holds 
   put_function = record {
     lifetimes = 1;
     outlives = [];
+    ty_params = [];
+    givens = 0;
     params = 3;
     locals = local ty_unit value_local ∷ local mut_slice value_local ∷ local (ty_int w64) value_local ∷ local τ value_local ∷ local (ty_int w64) value_local ∷ local ty_bool value_local ∷ local (ty_int w64) value_local ∷ local ty_ptr value_local ∷ [];
     body = seq (assign (place 4 []) (rv_opd (copy_opd (place 1 (field_step 1 ∷ [])))))
@@ -276,7 +277,7 @@ module _ (T : Declared) (L : LL.Laws T) (pl : Plains (fields T)) (small : Holds 
     abbrev PArg : Type 0
     PArg = MutBor (List D) × (ℕ × (D × Unit {0}))
 
-    abbrev at_list : List D → Bor (List D)
+    abbrev at_list : List D → MutBor (List D)
     at_list zs = record { ref_ptr = (b, o); ghost_name = γ; now = zs }
 
     abbrev px : PArg

@@ -1,6 +1,6 @@
 -- A call by its parts.
 use Rattle.std.specs.Prelude.{ℕ, ◌+◌, ◌≤◌, false, List, length, drop, eqb}
-use Rattle.trace.specs.Format.{if◌then◌else◌}
+use Rattle.trace.specs.Format.{when◌then◌else◌}
 use Rattle.trace.specs.Lent.{Left}
 use Rattle.readiness.specs.declared.Setup.{Setup}
 use Rattle.readiness.specs.declared.Dev.{Dev}
@@ -30,7 +30,7 @@ comes_to setup defaults s c q input answers =
 
 -- where the kind byte is consumed, its stamp is the earlier one
 abbrev pub took_kind_of : Replay → (consumed : ℕ) → Replay
-took_kind_of r consumed = if eqb consumed 0 then r else replay_of (begins (progress_in r))
+took_kind_of r consumed = when eqb consumed 0 then r else replay_of (begins (progress_in r))
 
 -- what is left of the input begins a record, or none
 abbrev pub ends_left : Dev → Stretch → (input : List ℕ) → (w : ℕ) → ReplayedPort
@@ -41,7 +41,7 @@ ends_left dev end input w =
 -- THE END OF A CALL, which runs no record more, with w bytes written
 abbrev pub ends_at : Dev → Stretch → (input : List ℕ) → (w : ℕ) → ReplayedPort
 ends_at dev end input w =
-    if eqb end.number 0
+    when eqb end.number 0
     then ends_left dev end input w
     else record { number = end.number; consumed = end.at; written = w; port = opened dev; replay = end.replay }
 

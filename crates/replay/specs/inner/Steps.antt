@@ -1,7 +1,7 @@
 -- What stands next in a call, between records.
 use Rattle.std.specs.Prelude.{ℕ, ◌+◌, ◌-◌, true, false, List, [], ◌∷◌, length, take, drop, eqb, ltb}
 use Rattle.times.specs.declared.Nanos.{Nanos}
-use Rattle.trace.specs.Format.{if◌then◌else◌, next}
+use Rattle.trace.specs.Format.{when◌then◌else◌, next}
 use Rattle.trace.specs.inner.Gathered.{whole_size}
 use Rattle.capture.specs.Advances.{due, advance}
 use Rattle.capture.specs.Replay.{Progress, begins, ended_with, more_answered}
@@ -23,11 +23,11 @@ runs_record size q at = record { runs = true; number = 0; by = no_time; size = s
 
 -- the bytes of what runs
 abbrev pub step_bytes : Step → (input : List ℕ) → List ℕ
-step_bytes step input = if eqb step.size 0 then advance step.by else take step.size (drop (step.at - step.size) input)
+step_bytes step input = when eqb step.size 0 then advance step.by else take step.size (drop (step.at - step.size) input)
 
 -- the record in front of what is left, if it is whole and there is room for its answer
 abbrev pub step_of_size : (size : ℕ) → Progress → (at : ℕ) → Step
-step_of_size size q at = if eqb size 0 then halts 0 q at else runs_record size (begins q) (at + size)
+step_of_size size q at = when eqb size 0 then halts 0 q at else runs_record size (begins q) (at + size)
 
 unfoldable pub step_at_record : Progress → (space at : ℕ) → (rest : List ℕ) → Step
 step_at_record q space at rest = step_of_size (whole_size space (next rest)) q at
@@ -35,14 +35,14 @@ step_at_record q space at rest = step_of_size (whole_size space (next rest)) q a
 -- the first of the advances that are not answered, if there is room for its answer; with none the record
 unfoldable pub step_at_advances : List Nanos → Progress → (space at : ℕ) → (rest : List ℕ) → Step
 step_at_advances [] q space at rest = step_at_record q space at rest
-step_at_advances (t ∷ more) q space at rest = if ltb space 8 then halts 30 q at else runs_advance t (more_answered 1 q) at
+step_at_advances (t ∷ more) q space at rest = when ltb space 8 then halts 30 q at else runs_advance t (more_answered 1 q) at
 
 -- at the kind byte: 32, 33, the advances, the record
 unfoldable pub step_after_stamp : Progress → (space at : ℕ) → (rest : List ℕ) → Step
 step_after_stamp q space at [] = halts 0 q at
 step_after_stamp q space at (kind ∷ more) =
     let n = checked_at q kind in
-    if eqb n 0 then step_at_advances (drop q.answered (due q.earlier q.stamp)) q space at (kind ∷ more) else halts n (ended_with n q) at
+    when eqb n 0 then step_at_advances (drop q.answered (due q.earlier q.stamp)) q space at (kind ∷ more) else halts n (ended_with n q) at
 
 -- WHAT STANDS NEXT at byte `at` of the input: the bytes that the stamp lacks are taken first
 unfoldable pub step_of : Progress → (space at : ℕ) → (input : List ℕ) → Step

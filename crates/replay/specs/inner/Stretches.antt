@@ -2,7 +2,7 @@
 use Rattle.std.specs.Prelude.{ℕ, ◌+◌, ◌-◌, ◌*◌, ◌≤◌, ◌<◌, ◌≡◌, Bool, false, ◌&&◌, List, [], ◌∷◌, length, get_or, take, drop, eqb}
 use Rattle.times.specs.declared.Nanos.{Nanos}
 use Rattle.ticks.specs.declared.Stamp.{Stamp}
-use Rattle.trace.specs.Format.{if◌then◌else◌, Bytes, size_of}
+use Rattle.trace.specs.Format.{when◌then◌else◌, Bytes, size_of}
 use Rattle.trace.specs.Bench.{Bench, runs}
 use Rattle.trace.specs.Exactly.{joined_up, AllWhole}
 use Rattle.readiness.specs.declared.Setup.{Setup}
@@ -22,11 +22,11 @@ use Rattle.replay.specs.inner.Calls.{Between}
 -- ---- One entry
 -- how many bytes a record of an entry has; 0 where an entry has none of this kind
 abbrev pub size_in_entry : (kind : ℕ) → ℕ
-size_in_entry kind = if eqb kind 1 then 0 else size_of kind
+size_in_entry kind = when eqb kind 1 then 0 else size_of kind
 
 -- the advances as the code holds them
 abbrev pub advances_in : Due → List Nanos
-advances_in d = if eqb d.count 0 then [] else (if eqb d.count 1 then d.first ∷ [] else d.first ∷ d.second ∷ [])
+advances_in d = when eqb d.count 0 then [] else (when eqb d.count 1 then d.first ∷ [] else d.first ∷ d.second ∷ [])
 
 -- an entry at byte `at`, after the stamp `before`: all of it is there, the recorder did not go back, and there is room for its bytes and its answers
 pub record StandsNext (before : Stamp) (input : List ℕ) (at space room : ℕ) (e : Entry) : Type 0 where

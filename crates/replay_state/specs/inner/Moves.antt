@@ -1,7 +1,7 @@
 -- How the code moves the state of a replay.
 use Rattle.std.specs.Prelude.{ℕ, ◌≡◌, List, [], ◌∷◌, ◌++◌, eqb}
 use Rattle.times.specs.declared.Nanos.{Nanos}
-use Rattle.trace.specs.Format.{if◌then◌else◌}
+use Rattle.trace.specs.Format.{when◌then◌else◌}
 use Rattle.capture.specs.declared.Replay.{Replay}
 use Rattle.capture.specs.Advances.{stamp_in, back}
 use Rattle.capture.specs.Replay.{Progress}
@@ -28,4 +28,4 @@ due_of (t ∷ u ∷ more) = record { count = 2; first = t; second = u }
 
 -- what is checked at the kind byte before the advances: 32, then 33, else 0
 abbrev pub checked_at : Progress → (kind : ℕ) → ℕ
-checked_at r kind = if back r.earlier (stamp_in r.stamp) then 32 else (if eqb kind 1 then 33 else 0)
+checked_at r kind = when back r.earlier (stamp_in r.stamp) then 32 else (when eqb kind 1 then 33 else 0)

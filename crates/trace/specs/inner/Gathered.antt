@@ -1,10 +1,10 @@
 -- What stands next in a call's trace, for code that goes record by record.
 use Rattle.std.specs.Prelude.{ℕ, ◌-◌, List, length, ltb}
-use Rattle.trace.specs.Format.{if◌then◌else◌, Next, complete, incomplete, unknown}
+use Rattle.trace.specs.Format.{when◌then◌else◌, Next, complete, incomplete, unknown}
 
 -- how many bytes the record in front has, if it is whole and there is room for its answer; 0 where the call ends
 abbrev pub whole_size : (room : ℕ) → Next → ℕ
-whole_size room (complete r) = if ltb room 8 then 0 else length r
+whole_size room (complete r) = when ltb room 8 then 0 else length r
 whole_size room incomplete = 0
 whole_size room unknown = 0
 

@@ -1,0 +1,23 @@
+-- Feed by value on the statuses copied in, and copied out again, is feed on what is lent.
+use Rattle.std.proofs.Common.{◌≡◌, length, List, rules, ap, ◌∙◌}
+use Rattle.readiness.specs.declared.Status.{Status}
+use Rattle.demand3.specs.Held.{held, lent_of}
+use Rattle.demand3.specs.Feeding.{feeds}
+use Rattle.lent_statuses.specs.Statuses.{stored_over}
+use Rattle.bench.specs.Entries.{left_by_feed}
+use Rattle.bench.proofs.Padding.{fed_as_lent}
+use Rattle.bench.proofs.feed.Goals as goal
+
+pub returns : goal.returns
+returns c =
+    let a = c.args in
+    let l = a.statuses.now in
+    let fed = c.feed-fed.result in
+    let live = c.feed-fed.new.live in
+    let cells = c.feed-fed.new.cells in
+    let answers = c.feed-fed.new.answers in
+    let array : length fed.statuses ≡ 32 = search rules in
+    let after = c.store.ensures ∙ ap (stored_over l) c.statuses_fed-after.ensures in
+    (λ i. left_by_feed c.outcome_of.result (c.port_fed-next.ensures i) (after i) live cells answers)
+    ∙ fed_as_lent a.setup a.defaults.now a.port.now l a.live.now a.cells.now a.input.now a.answers.now fed c.outcome_of.result live cells answers array c.outcome_of.ensures
+    (c.feed-fed.ensures ∙ ap (λ (s : List Status). feeds a.setup a.defaults.now (held a.port.now (lent_of (length l) s) a.live.now a.cells.now) a.input.now a.answers.now) c.load-array.ensures)

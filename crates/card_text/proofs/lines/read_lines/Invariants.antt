@@ -1,0 +1,17 @@
+-- `card_text::lines::read_lines` meets its contract. The loop's invariant: the lines left, read on, give what all lines give.
+use mathlib.Core.Path.{◌≡◌}
+use Prim.Native.Nat.{◌-◌, ◌≤◌}
+use lib.ListN.{length, drop}
+use Rattle.text_fields.specs.Text.{lines_of}
+use Rattle.card_grammar.specs.Grammar.{read_lines}
+use Rattle.card_text.proofs.lines.read_lines.Given as goal
+
+abbrev pub invariant-loop-at : goal.invariant-loop-at
+invariant-loop-at l =
+    (l.at ≤ length l.text)
+    × (l.count ≤ l.at)
+    × (length l.table ≡ length l.initial.table)
+    × (read_lines l.count (lines_of (drop l.at l.text)) l.table ≡ read_lines 0 (lines_of l.text) l.initial.table)
+
+abbrev pub decreases-loop-at : goal.decreases-loop-at
+decreases-loop-at l = length l.text - l.at

@@ -1,0 +1,13 @@
+-- `config_words::cold_reset` meets its contract. The loop's invariant: the words up to n are reset, and the rest are as they were.
+use mathlib.Core.Path.{◌≡◌}
+use Prim.Native.Nat.{◌≤◌, ◌-◌}
+use lib.ListN.{length}
+use Rattle.config_space.specs.Functions.{reset_where, cold_word}
+use Rattle.config_words.specs.inner.Resetting.{between}
+use Rattle.config_words.proofs.cold_reset.Given as goal
+
+abbrev pub invariant-loop-n : goal.invariant-loop-n
+invariant-loop-n l = (l.n ≤ l.end) × (length l.live ≡ length l.initial.live) × (l.live ≡ reset_where (between 0 l.n) cold_word l.initial.live l.defaults)
+
+abbrev pub decreases-loop-n : goal.decreases-loop-n
+decreases-loop-n l = l.end - l.n

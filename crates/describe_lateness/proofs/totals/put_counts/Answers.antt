@@ -1,0 +1,8 @@
+-- `describe_lateness::totals::put_counts` meets its contract.
+use Rattle.text_line.proofs.Putting.{then}
+use Rattle.describe_lateness.specs.Totals.{counts_text}
+use Rattle.describe_lateness.proofs.totals.put_counts.Goals as goal
+
+pub returns : goal.returns
+unfolding counts_text
+returns c = simp (c.u64_of_u32-3.ensures.value, c.u64_of_u32-2.ensures.value, c.u64_of_u32.ensures.value) at (then (then (then (then (then c.put_text-a.ensures c.put_grouped-b.ensures) c.put_text-c.ensures) c.put_grouped-d.ensures) c.put_text-e.ensures) c.put_grouped.ensures)

@@ -1,0 +1,8 @@
+-- `describe_sheet::refusals::put_refusal` meets its contract.
+use Rattle.text_line.proofs.Putting.{then}
+use Rattle.describe_sheet.specs.Refusals.{refusal_text}
+use Rattle.describe_sheet.proofs.refusals.put_refusal.Goals as goal
+
+pub returns : goal.returns
+unfolding refusal_text
+returns c = then (then c.put_named-a.ensures c.put_text-b.ensures) c.put_reason.ensures

@@ -1,0 +1,8 @@
+-- `describe_state::state_words::put_port_control` meets its contract.
+use Rattle.describe_state.specs.States.{port_control_text}
+use Rattle.text_line.proofs.Putting.{then}
+use Rattle.describe_state.proofs.state_words.put_port_control.Goals as goal
+
+pub returns : goal.returns
+unfolding port_control_text
+returns c = then (then c.put_switch-a.ensures c.put_switch-b.ensures) c.put_signalling.ensures

@@ -1,0 +1,20 @@
+-- `feed::opens` meets its contract.
+use Prim.Native.Nat.{ℕ, ◌≤◌}
+use native.Mathlib.Omega.{arith}
+use mathlib.Core.Path.{◌≡◌, sym, ◌∙◌}
+use mathlib.Core.List.{List}
+use lib.ListN.{length, replicate, length-replicate}
+use borrow.Author.Rules.{rules}
+use Rattle.set_up.specs.Lent.{held_in}
+use Rattle.feed.proofs.Accepting.{accepted}
+use Rattle.feed.proofs.opens.Goals as goal
+
+pub whole_size-requires : goal.whole_size-requires
+whole_size-requires c =
+    let short : c.args.port.carried_len ≤ 16 =
+    let a = c.args in
+    let live : List ℕ = replicate a.words 0 in
+    (accepted a.setup a.defaults.now (held_in a.port a.phases.now live a.cells.now)
+    (sym (c.refusal-no.ensures live (length-replicate a.words 0)) ∙ c.if-no-ne0.false) (search rules) (search rules)).short in
+    let sixteen : length c.args.port.carried ≡ 16 = search rules in
+    let e = c in omega (arith, short, sixteen)

@@ -1,0 +1,8 @@
+-- `registers::attributes` meets its contract: the const table has the masks of the definition, one by one.
+use mathlib.Core.Path.{refl}
+use Rattle.registers.specs.Rows.{masks}
+use Rattle.registers.proofs.attributes.Goals as goal
+
+pub returns : goal.returns
+unfolding masks
+returns c = refl

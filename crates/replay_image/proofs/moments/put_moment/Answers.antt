@@ -1,0 +1,34 @@
+-- `replay_image::moments::put_moment` meets its contract.
+use Prim.Native.Nat.{ℕ, suc, ◌+◌}
+use native.Mathlib.Omega.{arith}
+use mathlib.Core.Path.{◌≡◌, ap, ◌∙◌}
+use mathlib.Core.List.{List}
+use lib.Seq.{sets}
+use Rattle.state_layout.specs.Numbers.{low_first}
+use Rattle.state_layout.proofs.Stores.{store_one}
+use Rattle.replay_image.specs.Moments.{moment_bytes}
+use Rattle.replay_image.proofs.moments.put_moment.Goals as goal
+
+pub returns-in-Never : goal.returns-in-Never
+unfolding moment_bytes
+returns-in-Never c =
+    let told = c in
+    let a = told.args in
+    let bytes = a.bytes.now in
+    let k : a.at + 1 ≡ suc a.at = omega arith in
+    c.put_eight.ensures
+    ∙ ap (λ (l : List ℕ). sets l (a.at + 1) (low_first 8 0)) c.put.ensures
+    ∙ store_one bytes (moment_bytes a.moment) (low_first 8 0) a.at (a.at + 1) 0 (ap moment_bytes told.in-Never.is) k
+
+pub returns-in-At : goal.returns-in-At
+unfolding moment_bytes
+returns-in-At c =
+    let number = c in
+    let told = number in
+    let a = told.args in
+    let bytes = a.bytes.now in
+    let t = told.in-At.time.0 in
+    let k : a.at + 1 ≡ suc a.at = omega arith in
+    c.put_eight-in-At.ensures
+    ∙ (λ i. sets (number.put-in-At.ensures i) (a.at + 1) (low_first 8 (number.nanos_number.ensures i)))
+    ∙ store_one bytes (moment_bytes a.moment) (low_first 8 t) a.at (a.at + 1) 1 (ap moment_bytes told.in-At.is) k

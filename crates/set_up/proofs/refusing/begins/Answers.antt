@@ -1,0 +1,16 @@
+-- `set_up::refusing::begins` meets its contract.
+use mathlib.Core.Path.{◌≡◌}
+use native.Mathlib.Omega.{arith}
+use lib.ListN.{length}
+use Rattle.trace.proofs.Gathering.{begun_at, begun_none}
+use borrow.Author.Rules.{rules}
+use Rattle.set_up.proofs.refusing.begins.Goals as goal
+
+pub returns-then-n-eq0 : goal.returns-then-n-eq0
+returns-then-n-eq0 c = begun_none _ _ c.if-n-eq0.true
+
+pub returns : goal.returns
+returns c =
+    let a = c.args in
+    let n : length a.carried ≡ 16 = search rules in
+    rw c.size_of.ensures (begun_at a.carried a.n (omega arith) (omega arith))

@@ -1,0 +1,12 @@
+-- `text_fields::blank_end` meets its contract. The loop's invariant: the run that goes on at i ends where the one at `at` does.
+use mathlib.Core.Path.{◌≡◌}
+use Prim.Native.Nat.{◌-◌}
+use lib.ListN.{length}
+use Rattle.text_fields.specs.Text.{run_end, is_blank}
+use Rattle.text_fields.proofs.blank_end.Given as goal
+
+abbrev pub invariant-loop-i : goal.invariant-loop-i
+invariant-loop-i l = run_end is_blank l.i l.line ≡ run_end is_blank l.at l.line
+
+abbrev pub decreases-loop-i : goal.decreases-loop-i
+decreases-loop-i l = length l.line - l.i

@@ -11,7 +11,7 @@ import os, re, sys, collections
 
 DRY = '--dry' in sys.argv
 ID = r"[^\W\d][\w'′₀-₉→≤<]*(?:-[\w'′₀-₉→≤<+]+)*"
-TOKEN = re.compile(r"«[^»]*»|" + ID)
+TOKEN = re.compile(r"«[^»]*»|(?<!\w)" + ID)
 DECL = re.compile(r"^\s*(?:(?:pub|abbrev|unfoldable|opaque|let|field)\s+)*((?:" + ID + r")(?:\s+" + ID + r")*)\s*:(?!:)")
 BINDER = re.compile(r"[({]\s*((?:" + ID + r")(?:\s+" + ID + r")*)\s*:(?!:)")
 LET = re.compile(r"\blet\s+(" + ID + r")\s*[:=]")

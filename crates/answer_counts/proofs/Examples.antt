@@ -1,5 +1,5 @@
 -- Counts of answers, as antt computes them.
-use Rattle.std.proofs.Common.{◌≡◌, ℕ, ◌<◌, true, false, ◌&&◌, eqb, ltb, List, [], ◌∷◌, replicate, refl, eqb-true}
+use Rattle.std.proofs.Common.{◌≡◌, ℕ, ◌<◌, true, false, ◌&&◌, eqb, ltb, [], ◌∷◌, replicate, refl, eqb-true}
 use Rattle.bits.specs.Bits.{one}
 use Rattle.bits.proofs.Tests.{all_at, is_true}
 use Rattle.answer_counts.specs.Counts.{place_of, statuses_of, statuses_in, one_more, counted_in, any_refused}

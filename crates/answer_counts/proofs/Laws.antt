@@ -1,5 +1,5 @@
 -- Counts: the loop over the answers, counting in two parts, and the sum of all counts.
-use Rattle.std.proofs.Common.{◌≡◌, ℕ, zero, suc, ◌+◌, ◌-◌, ◌*◌, ◌/◌, ◌%◌, ◌^◌, ◌<◌, ◌≤◌, Bool, true, false, cond, eqb, ltb, List, [], ◌∷◌, ◌++◌, length, get_or, drop, set, replicate, sym, refl, ap, ◌∙◌, subst, ap₂, mod-eq_of_lt, arith, length-set, get_or-drop, drop-drop, ltb-false, ltb-true, le-ltb, lt-ltb}
+use Rattle.std.proofs.Common.{◌≡◌, ℕ, zero, suc, ◌+◌, ◌-◌, ◌*◌, ◌/◌, ◌%◌, ◌^◌, ◌<◌, ◌≤◌, Bool, true, false, cond, eqb, ltb, List, [], ◌∷◌, ◌++◌, length, get_or, drop, set, replicate, sym, refl, ap, ◌∙◌, subst, ap₂, mod-eq_of_lt, arith, length-set, get_or-drop, drop-drop, ltb-true}
 use Rattle.answer_counts.specs.Counts.{place_of, statuses_of, statuses_in, one_more, counted_in, count_on, all_on}
 
 -- ---- places

@@ -17,38 +17,25 @@ pub fn no_counts() -> Counts
 }
 
 // Where a status is counted.
+#[tactic(auto, unfolding(crate::specs::Counts::place_of))]
 fn place_of(status: u8) -> usize
     ensures value { result ≡ place_of status }
     ensures upper_bound { result < 12 }
 {
-    if status == 0 {
-        return 0;
+    match status {
+        0 => 0,
+        16..=25 => usize::from(status) - 15,
+        _ => 11,
     }
-    if status < 16 {
-        return 11;
-    }
-    if status < 26 {
-        return bits::usize_of_u8(status) - 15;
-    }
-    11
-}
-
-// One more, modulo 2^64.
-fn one_more(n: u64) -> u64
-    ensures { result ≡ (n + 1) % 2 ^ 64 }
-{
-    std::num::wrapping_add_u64(n, 1)
 }
 
 fn count_each(before: [u64; 12], answers: &[u8]) -> [u64; 12]
     ensures { result ≡ all_on before (counted_in (statuses_in answers.now)) }
 {
     let mut by = before;
-    let mut i: usize = 0;
-    while i < answers.len() / 8 {
+    for i in 0..answers.len() / 8 {
         let k = place_of(answers[8 * i]);
-        by[k] = one_more(by[k]);
-        i += 1;
+        by[k] = by[k].wrapping_add(1);
     }
     by
 }
@@ -57,16 +44,16 @@ fn count_each(before: [u64; 12], answers: &[u8]) -> [u64; 12]
 pub fn count(before: Counts, answers: &[u8]) -> Counts
     ensures { result ≡ record { by = all_on before.by (counted_in (statuses_in answers.now)) } }
 {
-    let by = before.by;
     Counts {
-        by: count_each(by, answers),
+        by: count_each(before.by, answers),
     }
 }
 
 // Whether any status was 19 to 25: the record asked for what there isn't, or what isn't allowed.
+#[tactic(auto, unfolding(crate::specs::Counts::any_refused))]
 pub fn any_refused(counts: Counts) -> bool
     ensures { result ≡ any_refused counts }
 {
     let by = counts.by;
-    (by[4] > 0) | (by[5] > 0) | (by[6] > 0) | (by[7] > 0) | (by[8] > 0) | (by[9] > 0) | (by[10] > 0)
+    by[4] > 0 || by[5] > 0 || by[6] > 0 || by[7] > 0 || by[8] > 0 || by[9] > 0 || by[10] > 0
 }

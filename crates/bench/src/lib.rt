@@ -1,19 +1,19 @@
 // The public entries: set-up and feed over memory that the caller lends, the port state and the slot statuses with it.
+// Kept in this file: what is lent goes as slices beside set-up and device, and how they fit stands in clauses, since a struct of `&mut` slices needs a clause on its ghost name in each function.
 #![tactic(auto)]
 
 ghost use Rattle.std.specs.Prelude.{◌≡◌};
 ghost use Rattle.demand3.specs.Held.{held};
 ghost use Rattle.demand3.specs.SettingUp.{sets_up};
 ghost use Rattle.demand3.specs.Feeding.{feeds};
-ghost use Rattle.bench.specs.Entries.{left_by_set_up, left_by_feed, outcome_is};
+ghost use Rattle.bench.specs.Entries.{left_by_set_up, left_by_feed};
 
-use feed::Fed;
 use lent_statuses::{load, store};
 use readiness::{Setup, Status};
 use records::Port;
-use set_up::SetUp;
 
 // What a call of feed gives: its number, and how many bytes it consumed and wrote.
+// Kept: the number is the papers', 0 where nothing is refused, and the entries for C return it.
 #[derive(Clone, Copy)]
 pub struct Outcome {
     pub number: u8,
@@ -21,25 +21,8 @@ pub struct Outcome {
     pub written: usize,
 }
 
-fn number_made(made: SetUp) -> u8
-    ensures { result ≡ made.number }
-{
-    made.number
-}
-
-fn port_made(made: SetUp) -> Port
-    ensures { result ≡ made.port }
-{
-    made.port
-}
-
-fn statuses_made(made: SetUp) -> [Status; 32]
-    ensures { result ≡ made.statuses }
-{
-    made.statuses
-}
-
 // Set-up: 0, or its refusal, and then nothing changes.
+// Kept: the number is the papers', and the entries for C return it.
 pub fn set_up(
     setup: Setup,
     port: &mut Port,
@@ -54,33 +37,9 @@ pub fn set_up(
     let lent = statuses.len();
     let array = load(statuses);
     let made = set_up::set_up(setup, *port, array, lent, live, defaults, cells);
-    let next = port_made(made);
-    *port = next;
-    let after = statuses_made(made);
-    store(statuses, after);
-    number_made(made)
-}
-
-fn port_fed(fed: Fed) -> Port
-    ensures { result ≡ fed.port }
-{
-    fed.port
-}
-
-fn statuses_fed(fed: Fed) -> [Status; 32]
-    ensures { result ≡ fed.statuses }
-{
-    fed.statuses
-}
-
-fn outcome_of(fed: Fed) -> Outcome
-    ensures { result ≡ outcome_is fed }
-{
-    Outcome {
-        number: fed.number,
-        consumed: fed.consumed,
-        written: fed.written,
-    }
+    *port = made.port;
+    store(statuses, made.statuses);
+    made.number
 }
 
 // Feed: its number and counts; with a refusal nothing changes.
@@ -102,9 +61,11 @@ pub fn feed(
     let fed = feed::feed(
         setup, *port, array, lent, live, defaults, cells, input, answers,
     );
-    let next = port_fed(fed);
-    *port = next;
-    let after = statuses_fed(fed);
-    store(statuses, after);
-    outcome_of(fed)
+    *port = fed.port;
+    store(statuses, fed.statuses);
+    Outcome {
+        number: fed.number,
+        consumed: fed.consumed,
+        written: fed.written,
+    }
 }

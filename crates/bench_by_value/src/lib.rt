@@ -1,4 +1,5 @@
 // The public entries for callers that hold a port and an array of statuses by value.
+// Kept in this file: what is lent goes as slices beside set-up and device, and how they fit stands in clauses, since a struct of `&mut` slices needs a clause on its ghost name in each function.
 #![tactic(auto)]
 
 ghost use Rattle.std.specs.Prelude.{◌≡◌};
@@ -6,22 +7,10 @@ ghost use Rattle.demand3.specs.Held.{held};
 ghost use Rattle.bench.specs.Entries.{left_by_set_up, left_by_feed, outcome_is};
 ghost use Rattle.bench_by_value.specs.First.{sets_up_first, feeds_first};
 
-use bench::Outcome;
-use bits::at_most;
 use feed::Fed;
 use readiness::{Setup, Status};
 use records::Port;
 use set_up::SetUp;
-
-fn set_up_with(number: u8, port: Port, statuses: [Status; 32]) -> SetUp
-    ensures { result ≡ record { number = number; port = port; statuses = statuses } }
-{
-    SetUp {
-        number: number,
-        port: port,
-        statuses: statuses,
-    }
-}
 
 // Set-up with the first n of the statuses, at most all 32.
 pub fn set_up_first(
@@ -38,20 +27,12 @@ pub fn set_up_first(
 {
     let mut own = port;
     let mut array = statuses;
-    let k = at_most(n, 32);
+    let k = n.min(32);
     let number = bench::set_up(setup, &mut own, &mut array[..k], live, defaults, cells);
-    set_up_with(number, own, array)
-}
-
-fn fed_with(outcome: Outcome, port: Port, statuses: [Status; 32]) -> Fed
-    ensures { result ≡ record { number = outcome.number; consumed = outcome.consumed; written = outcome.written; port = port; statuses = statuses } }
-{
-    Fed {
-        number: outcome.number,
-        consumed: outcome.consumed,
-        written: outcome.written,
-        port: port,
-        statuses: statuses,
+    SetUp {
+        number,
+        port: own,
+        statuses: array,
     }
 }
 
@@ -72,7 +53,7 @@ pub fn feed_first(
 {
     let mut own = port;
     let mut array = statuses;
-    let k = at_most(n, 32);
+    let k = n.min(32);
     let outcome = bench::feed(
         setup,
         &mut own,
@@ -83,5 +64,11 @@ pub fn feed_first(
         input,
         answers,
     );
-    fed_with(outcome, own, array)
+    Fed {
+        number: outcome.number,
+        consumed: outcome.consumed,
+        written: outcome.written,
+        port: own,
+        statuses: array,
+    }
 }

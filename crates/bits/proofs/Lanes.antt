@@ -2,7 +2,7 @@
 use mathlib.Core.Path.{◌≡◌}
 use Prim.Native.Nat.{ℕ, ◌*◌, ◌%◌, ◌^◌, ◌<◌}
 use lib.Bits.{bit_and, bit_or}
-use lib.Dec.{eqb, eqb→eq, ltb, ltb→lt}
+use lib.Dec.{eqb, eqb→eq}
 use Rattle.bits.specs.Bits.{bit, number, word, enabled}
 use Rattle.bits.proofs.Tests.{all_at}
 
@@ -11,10 +11,7 @@ abbrev pub spread : ℕ → ℕ
 spread e =
     bit_and (bit_or (bit_or (bit_or (bit_and e 15) (bit_and e 15 * 2 ^ 7 % 2 ^ 32)) (bit_and e 15 * 2 ^ 14 % 2 ^ 32)) (bit_and e 15 * 2 ^ 21 % 2 ^ 32)) 0x01010101 * 255
 
--- it fits a word, and has all eight bits of each enabled lane: a test at each byte of enables
-pub spread_lt : (e : ℕ) → e < 256 → spread e < 2 ^ 32
-spread_lt e h = ltb→lt (spread e) (2 ^ 32) (all_at 256 (λ e. ltb (spread e) (2 ^ 32)) tt e h)
-
+-- it has all eight bits of each enabled lane: a test at each byte of enables
 pub spread_is : (e : ℕ) → e < 256 → spread e ≡ word (enabled e)
 unfolding bit number word
 spread_is e h = eqb→eq (spread e) (word (enabled e)) (all_at 256 (λ e. eqb (spread e) (word (enabled e))) tt e h)

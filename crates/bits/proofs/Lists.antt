@@ -1,5 +1,5 @@
 -- Lists: the one that a loop makes element by element, what is done and then what is left of the old list; one by its elements; fronts and padding.
-use mathlib.Core.Path.{◌≡◌, refl, sym, ap, ap₂, ◌∙◌}
+use mathlib.Core.Path.{◌≡◌, refl, sym, ap, ◌∙◌}
 use mathlib.Core.Bool.{Bool, true, false, cond}
 use mathlib.Core.Logic.{⊎_elim}
 use mathlib.Core.List.{List, [], ◌∷◌, ◌++◌, append_assoc, append-nil}
@@ -146,9 +146,6 @@ module _ {A : Type 0} where
       rw (add-one, drop-cons old i d, take-suc new i d)
       (set_at (take i new) (get_or old i d) (drop (suc i) old) v i (length-take-le i new (omega arith))
       ∙ sym (append_assoc (take i new) (v ∷ []) (drop (suc i) old)))
-
-  pub front_all : (i : ℕ) (new old : List A) → length new ≤ i → length old ≤ i → front i new old ≡ new
-  front_all i new old h k = ap₂ ◌++◌ (take_all i new h) (drop_of_length-le old k) ∙ append-nil new
 
   -- ---- a list with the same element after it, m in all
 

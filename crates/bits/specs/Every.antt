@@ -1,5 +1,5 @@
 -- A test of every number below a bound.
-use Rattle.std.specs.Prelude.{ℕ, zero, suc, Bool, true, false, ◌&&◌}
+use Rattle.std.specs.Prelude.{ℕ, zero, suc, Bool, true, ◌&&◌}
 
 -- p holds at every number below n
 unfoldable pub every : ℕ → (ℕ → Bool) → Bool

@@ -7,13 +7,14 @@ use native.Mathlib.Omega.{arith}
 use lib.ListN.{length}
 use lib.Dec.{leb, eqb}
 use borrow.Author.Tests.{eq-eqb, ne_eqb, leb-false, le-leb, lt-leb}
+use Rattle.std.specs.Prelude.{None, Some}
 use Rattle.bits.specs.Orders.{Among, here, there}
 use Rattle.bits.proofs.Numbers.{by_le, four_bytes}
 use Rattle.times.specs.declared.Nanos.{Nanos}
 use Rattle.ticks.specs.declared.Stamp.{Stamp}
 use Rattle.ticks.specs.Ticks.{difference, went_back, in_nanos}
 use Rattle.trace.proofs.Tests.{if_true, if_false, if_cases}
-use Rattle.capture.specs.Advances.{stamp_in, longest_advance, rest, advances, advance, none, was, back, between, due}
+use Rattle.capture.specs.Advances.{stamp_in, longest_advance, rest, advances, advance, back, between, due}
 use Rattle.capture.specs.Exactly.{total, LongestFirst, AreAdvances, IsAdvance, AdvancesExactly}
 use Rattle.capture.proofs.Advancing.{bytes_advance, advance-whole, due_none}
 
@@ -114,17 +115,17 @@ module _ (earlier : Stamp) (stamp : List ℕ) where
   unfolding went_back
   fits_two f = omega (arith, four_a_tick, leb-false 2147483648 ticks f)
 
-  due_forward : length stamp ≡ 4 → went_back (difference earlier (stamp_in stamp)) ≡ false → due (was earlier) stamp ≡ advances time
+  due_forward : length stamp ≡ 4 → went_back (difference earlier (stamp_in stamp)) ≡ false → due (Some earlier) stamp ≡ advances time
   unfolding due back between
   due_forward l f =
       if_true (eqb (length stamp) 4) _ _ (eq-eqb (length stamp) 4 l) ∙ if_false (went_back (difference earlier (stamp_in stamp))) _ _ f
 
-  due-back : went_back (difference earlier (stamp_in stamp)) ≡ true → due (was earlier) stamp ≡ []
+  due-back : went_back (difference earlier (stamp_in stamp)) ≡ true → due (Some earlier) stamp ≡ []
   unfolding due back
   due-back b =
       if_cases (λ (ts : List Nanos). ts ≡ []) (eqb (length stamp) 4) _ _ (λ _. if_true (went_back (difference earlier (stamp_in stamp))) _ _ b) (λ _. refl)
 
-first_none : (stamp : List ℕ) → due none stamp ≡ []
+first_none : (stamp : List ℕ) → due None stamp ≡ []
 unfolding due back between
 first_none stamp = if_cases (λ (ts : List Nanos). ts ≡ []) (eqb (length stamp) 4) _ _ (λ _. refl) (λ _. refl)
 

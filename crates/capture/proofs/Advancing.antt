@@ -7,13 +7,14 @@ use native.Mathlib.Nat.{mod-lt}
 use lib.ListN.{length}
 use lib.Dec.{leb, eqb}
 use borrow.Author.Tests.{ne_eqb}
+use Rattle.std.specs.Prelude.{None, Some}
 use Rattle.bits.proofs.Bytes.{byte_at_lem}
 use Rattle.times.specs.declared.Nanos.{Nanos}
 use Rattle.ticks.specs.declared.Stamp.{Stamp}
 use Rattle.ticks.specs.Ticks.{wraps, difference, in_nanos}
 use Rattle.trace.specs.Format.{Bytes, next, complete, known, body, size_of}
 use Rattle.trace.proofs.Tests.{if_cases, if_false}
-use Rattle.capture.specs.Advances.{stamp_in, longest_advance, advances, advance, advance_bytes, Earlier, none, was, back, between, due}
+use Rattle.capture.specs.Advances.{stamp_in, longest_advance, advances, advance, advance_bytes, Earlier, back, between, due}
 
 -- ---- an advance as a record
 -- its bytes
@@ -42,8 +43,8 @@ few t =
 
 few_between : (e : Earlier) (stamp : Stamp) → length (between e stamp) ≤ 2
 unfolding between
-few_between none stamp = omega arith
-few_between (was e) stamp = few (in_nanos (difference e stamp))
+few_between None stamp = omega arith
+few_between (Some e) stamp = few (in_nanos (difference e stamp))
 
 pub due_few : (e : Earlier) (stamp : List ℕ) → length (due e stamp) ≤ 2
 unfolding due

@@ -7,13 +7,14 @@ use lib.ListN.{length, take, length-append}
 use lib.Seq.{append_snoc}
 use lib.Dec.{ltb}
 use borrow.Author.Tests.{lt-ltb, le-ltb}
+use Rattle.std.specs.Prelude.{None, Some}
 use Rattle.trace.specs.Format.{body}
 use Rattle.trace.specs.Feed.{kind_at}
 use Rattle.trace.proofs.Tests.{if_true, if_false}
 use Rattle.trace.proofs.Records.{complete_at, length_whole}
 use Rattle.trace.proofs.Cutting.{Partial}
 use Rattle.trace.proofs.Gathering.{begun_partial}
-use Rattle.capture.specs.Advances.{Earlier, none, was, stamp_in, due, advance_bytes}
+use Rattle.capture.specs.Advances.{Earlier, stamp_in, due, advance_bytes}
 use Rattle.capture.specs.Capture.{Entry, AreEntries, entry_bytes, entry_trace, last_stamp, Place, start, Role, of_stamp, of_kind, of_record, role_of, carried_after, place_at, adds_at, place_after, trace_from, place_of, stands_for}
 use Rattle.capture.specs.Exactly.{Entries}
 use Rattle.capture.proofs.Standing.{place_append, trace_append}
@@ -75,7 +76,7 @@ part_adds e k c (x ∷ xs) j =
 
 module _ (e : Earlier) (stamp : List ℕ) (h : length stamp ≡ 4) where
   abbrev now : Earlier
-  now = was (stamp_in stamp)
+  now = Some (stamp_in stamp)
 
   -- the kind byte, and bytes after it
   kind_adds : (k : ℕ) (c xs : List ℕ) (q : Place) → carried_after [] k ≡ c → Adds (at now [] c) xs xs q → Adds (at e stamp []) (k ∷ xs) (advance_bytes (due e stamp) ++ k ∷ xs) q
@@ -102,7 +103,7 @@ entries_add e (x ∷ es) h =
     let stamp = x.stamp in
     let r = x.record_bytes in
     adds_append (adds_append (stamp_adds e [] stamp (omega (arith, h.0.stamp))) (record_adds e stamp h.0.stamp r (length_whole r r (complete_at r r h.0.whole)).0))
-    (entries_add (was (stamp_in stamp)) es h.1)
+    (entries_add (Some (stamp_in stamp)) es h.1)
 
 -- what bytes stand for, by what they add
 stands : (xs t : List ℕ) (n : ℕ) (p : Place) → Adds start xs t p → stands_for xs n ≡ t ++ advance_bytes (take n (due p.earlier p.stamp))
@@ -113,13 +114,13 @@ pub entries : Entries
 unfolding place_of
 entries =
     record {
-      trace = λ es h. stands (entry_bytes es) (entry_trace none es) 0 _ (entries_add none es h) ∙ append-nil (entry_trace none es);
-      place = λ es h. (entries_add none es h).place;
+      trace = λ es h. stands (entry_bytes es) (entry_trace None es) 0 _ (entries_add None es h) ∙ append-nil (entry_trace None es);
+      place = λ es h. (entries_add None es h).place;
       stamped = λ es h stamp l n.
-          stands (entry_bytes es ++ stamp) (entry_trace none es ++ []) n (at (last_stamp none es) stamp []) (adds_append (entries_add none es h) (stamp_adds (last_stamp none es) [] stamp (omega arith)))
-          ∙ ap (λ (t : List ℕ). t ++ advance_bytes (take n (due (last_stamp none es) stamp))) (append-nil (entry_trace none es));
+          stands (entry_bytes es ++ stamp) (entry_trace None es ++ []) n (at (last_stamp None es) stamp []) (adds_append (entries_add None es h) (stamp_adds (last_stamp None es) [] stamp (omega arith)))
+          ∙ ap (λ (t : List ℕ). t ++ advance_bytes (take n (due (last_stamp None es) stamp))) (append-nil (entry_trace None es));
       carrying = λ es h stamp c l b n.
-          stands (entry_bytes es ++ (stamp ++ c)) (entry_trace none es ++ (advance_bytes (due (last_stamp none es) stamp) ++ c)) 0 (at (was (stamp_in stamp)) [] c)
-          (adds_append (entries_add none es h) (adds_append (stamp_adds (last_stamp none es) [] stamp (omega arith)) (begun_adds (last_stamp none es) stamp l c n (begun_partial c b))))
+          stands (entry_bytes es ++ (stamp ++ c)) (entry_trace None es ++ (advance_bytes (due (last_stamp None es) stamp) ++ c)) 0 (at (Some (stamp_in stamp)) [] c)
+          (adds_append (entries_add None es h) (adds_append (stamp_adds (last_stamp None es) [] stamp (omega arith)) (begun_adds (last_stamp None es) stamp l c n (begun_partial c b))))
           ∙ append-nil _;
     }

@@ -7,6 +7,7 @@ use lib.ListN.{get_or, take, replicate}
 use native.Mathlib.Omega.{arith}
 use lib.Dec.{eqb}
 use borrow.Author.Tests.{ne_eqb, eqb-false}
+use Rattle.std.specs.Prelude.{None, Some}
 use Rattle.times.specs.declared.Nanos.{Nanos}
 use Rattle.ticks.specs.declared.Stamp.{Stamp}
 use Rattle.ticks.specs.Ticks.{difference, went_back, in_nanos}
@@ -19,7 +20,7 @@ use Rattle.trace.specs.Calls.{Call, all_refused}
 use Rattle.trace.specs.inner.Keeps.{Keeps}
 use Rattle.trace.proofs.Tests.{if_false}
 use Rattle.trace.proofs.Refusing.{refusal_none, refusal_accepted}
-use Rattle.capture.specs.Advances.{Earlier, none, was, stamp_in, back, advances, between, due, advance}
+use Rattle.capture.specs.Advances.{Earlier, stamp_in, back, advances, between, due, advance}
 use Rattle.capture.specs.Capture.{place_after, trace_from, place_of, stands_for}
 use Rattle.capture.specs.Replay.{Progress, fresh, end_fits, matches, advancing, kind_byte, replay_open, replay}
 use Rattle.capture.specs.Lent.{Held, replay_of, refusal_with, stops_first, replays, Fresh}
@@ -53,30 +54,30 @@ as_record = refl
 
 -- ---- the advances that are due
 -- from FFFFFFFFh to 00000002h: 3 ticks
-wrapped : due (was (stamp 0xFFFFFFFF)) (2 ∷ 0 ∷ 0 ∷ 0 ∷ []) ≡ ns 12 ∷ []
+wrapped : due (Some (stamp 0xFFFFFFFF)) (2 ∷ 0 ∷ 0 ∷ 0 ∷ []) ≡ ns 12 ∷ []
 unfolding due back between difference went_back in_nanos advances stamp_in
 wrapped = refl
 
 -- 2^31 - 1 ticks: the most that are no step back
-most : due (was (stamp 0x10)) (0x0F ∷ 0 ∷ 0 ∷ 0x80 ∷ []) ≡ ns 4294967295 ∷ ns 4294967293 ∷ []
+most : due (Some (stamp 0x10)) (0x0F ∷ 0 ∷ 0 ∷ 0x80 ∷ []) ≡ ns 4294967295 ∷ ns 4294967293 ∷ []
 unfolding due back between difference went_back in_nanos advances stamp_in
 most = refl
 
 -- 2^31 ticks: a step back
-half_way : back (was (stamp 0x10)) (stamp_in (0x10 ∷ 0 ∷ 0 ∷ 0x80 ∷ [])) ≡ true
+half_way : back (Some (stamp 0x10)) (stamp_in (0x10 ∷ 0 ∷ 0 ∷ 0x80 ∷ [])) ≡ true
 unfolding back difference went_back stamp_in
 half_way = refl
 
-none_half_way : due (was (stamp 0x10)) (0x10 ∷ 0 ∷ 0 ∷ 0x80 ∷ []) ≡ []
+none_half_way : due (Some (stamp 0x10)) (0x10 ∷ 0 ∷ 0 ∷ 0x80 ∷ []) ≡ []
 unfolding due back difference went_back stamp_in
 none_half_way = refl
 
 -- three bytes of a stamp, and the first stamp
-not_yet : due (was (stamp 0)) (4 ∷ 0 ∷ 0 ∷ []) ≡ []
+not_yet : due (Some (stamp 0)) (4 ∷ 0 ∷ 0 ∷ []) ≡ []
 unfolding due
 not_yet = refl
 
-first_stamp : due none (4 ∷ 0 ∷ 0 ∷ 0 ∷ []) ≡ []
+first_stamp : due None (4 ∷ 0 ∷ 0 ∷ 0 ∷ []) ≡ []
 unfolding due back between
 first_stamp = refl
 
@@ -160,7 +161,7 @@ consumed = refl
 held : (replay_calls lent begin cs).held
     ≡ record {
       port = record { state = 1140; carried = []; broken = false };
-      replay = record { begun = true; earlier = stamp 0x40000011; stamp_len = 4; stamp = 17 ∷ 0 ∷ 0 ∷ 0x40 ∷ []; answered = 0; ended = 33 };
+      replay = record { earlier = Some (stamp 0x40000011); stamp_len = 4; stamp = 17 ∷ 0 ∷ 0 ∷ 0x40 ∷ []; answered = 0; ended = 33 };
     }
 unfolding replay_calls replays stops_first refusal_with refusal matches end_fits replay_open kind_byte advancing byte begun due back between difference went_back in_nanos advances advance stamp_in known body size_of toy_run sum
 held = refl
@@ -189,7 +190,7 @@ unfolding replay_calls replays stops_first refusal_with refusal matches end_fits
 went_back_lem = refl
 
 went_back_left : (replay_calls lent begin backwards).held.replay
-    ≡ record { begun = true; earlier = stamp 16; stamp_len = 4; stamp = 15 ∷ 0 ∷ 0 ∷ 0 ∷ []; answered = 0; ended = 32 }
+    ≡ record { earlier = Some (stamp 16); stamp_len = 4; stamp = 15 ∷ 0 ∷ 0 ∷ 0 ∷ []; answered = 0; ended = 32 }
 unfolding replay_calls replays stops_first refusal_with refusal matches end_fits replay_open kind_byte advancing byte begun due back between difference went_back in_nanos advances advance stamp_in known body size_of toy_run sum
 went_back_left = refl
 
@@ -213,50 +214,50 @@ unfolding replay_calls replays stops_first refusal_with refusal matches end_fits
 other_outcomes = refl
 
 other_left : (replay_calls lent begin other).held.replay
-    ≡ record { begun = true; earlier = stamp 16; stamp_len = 4; stamp = 17 ∷ 0 ∷ 0 ∷ 0 ∷ []; answered = 1; ended = 33 }
+    ≡ record { earlier = Some (stamp 16); stamp_len = 4; stamp = 17 ∷ 0 ∷ 0 ∷ 0 ∷ []; answered = 1; ended = 33 }
 unfolding replay_calls replays stops_first refusal_with refusal matches end_fits replay_open kind_byte advancing byte begun due back between difference went_back in_nanos advances advance stamp_in known body size_of toy_run sum
 other_left = refl
 
 -- an ended replay's number comes before a broken port's 31, and nothing changes
-ended_broken : let h : Held (Bench ℕ) = record { port = record { state = 100; carried = []; broken = true }; replay = replay_of (progress (was (stamp 16)) (15 ∷ 0 ∷ 0 ∷ 0 ∷ []) 0 32) } in replay_calls lent h cs ≡ all_refused 32 h cs
+ended_broken : let h : Held (Bench ℕ) = record { port = record { state = 100; carried = []; broken = true }; replay = replay_of (progress (Some (stamp 16)) (15 ∷ 0 ∷ 0 ∷ 0 ∷ []) 0 32) } in replay_calls lent h cs ≡ all_refused 32 h cs
 unfolding replay_calls replays stops_first refusal_with refusal matches end_fits begun due back between difference went_back stamp_in
 ended_broken = refl
 
 -- ---- states that don't match
 -- an advance answered at the start: 5, and nothing changes
-unmatched : let h : Held (Bench ℕ) = record { port = port; replay = replay_of (progress none [] 1 0) } in replay_calls lent h cs ≡ all_refused 5 h cs
+unmatched : let h : Held (Bench ℕ) = record { port = port; replay = replay_of (progress None [] 1 0) } in replay_calls lent h cs ≡ all_refused 5 h cs
 unfolding replay_calls replays stops_first refusal_with refusal matches end_fits begun due
 unmatched = refl
 
 -- five stamp bytes
-five_bytes : let h : Held (Bench ℕ) = record { port = port; replay = record { begun = false; earlier = stamp 0; stamp_len = 5; stamp = replicate 4 0; answered = 0; ended = 0 } } in replay_calls lent h cs ≡ all_refused 5 h cs
+five_bytes : let h : Held (Bench ℕ) = record { port = port; replay = record { earlier = None; stamp_len = 5; stamp = replicate 4 0; answered = 0; ended = 0 } } in replay_calls lent h cs ≡ all_refused 5 h cs
 unfolding replay_calls replays stops_first refusal_with refusal begun
 five_bytes = refl
 
 -- more answered than are due
-too_many : matches [] (progress (was (stamp 16)) (17 ∷ 0 ∷ 0 ∷ 0 ∷ []) 2 0) ≡ false
+too_many : matches [] (progress (Some (stamp 16)) (17 ∷ 0 ∷ 0 ∷ 0 ∷ []) 2 0) ≡ false
 unfolding matches end_fits due back between difference went_back in_nanos advances stamp_in
 too_many = refl
 
 -- ended by 33, and the recorder went back; by 32, and it did not; by 31
-back_33 : matches [] (progress (was (stamp 16)) (15 ∷ 0 ∷ 0 ∷ 0 ∷ []) 0 33) ≡ false
+back_33 : matches [] (progress (Some (stamp 16)) (15 ∷ 0 ∷ 0 ∷ 0 ∷ []) 0 33) ≡ false
 unfolding matches end_fits due back between difference went_back stamp_in
 back_33 = refl
 
-forward_32 : matches [] (progress (was (stamp 16)) (17 ∷ 0 ∷ 0 ∷ 0 ∷ []) 0 32) ≡ false
+forward_32 : matches [] (progress (Some (stamp 16)) (17 ∷ 0 ∷ 0 ∷ 0 ∷ []) 0 32) ≡ false
 unfolding matches end_fits due back between difference went_back in_nanos advances stamp_in
 forward_32 = refl
 
-ended_31 : matches [] (progress (was (stamp 16)) (17 ∷ 0 ∷ 0 ∷ 0 ∷ []) 0 31) ≡ false
+ended_31 : matches [] (progress (Some (stamp 16)) (17 ∷ 0 ∷ 0 ∷ 0 ∷ []) 0 31) ≡ false
 unfolding matches end_fits due back between difference went_back in_nanos advances stamp_in
 ended_31 = refl
 
 -- in a record: kind 01, a stamp byte, and no record begun
-carried_01 : matches (1 ∷ 0 ∷ []) (progress (was (stamp 16)) [] 0 0) ≡ false
+carried_01 : matches (1 ∷ 0 ∷ []) (progress (Some (stamp 16)) [] 0 0) ≡ false
 unfolding matches
 carried_01 = refl
 
-carried_stamp : matches (2 ∷ 0 ∷ []) (progress (was (stamp 16)) (7 ∷ []) 0 0) ≡ false
+carried_stamp : matches (2 ∷ 0 ∷ []) (progress (Some (stamp 16)) (7 ∷ []) 0 0) ≡ false
 unfolding matches
 carried_stamp = refl
 

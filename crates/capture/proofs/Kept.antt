@@ -1,21 +1,15 @@
 -- The memory of a replay keeps its state as it is.
-use mathlib.Core.Path.{◌≡◌, refl}
+use mathlib.Core.Path.{◌≡◌}
 use mathlib.Core.Bool.{true}
 use lib.ListN.{length}
 use borrow.Author.Tests.{le-leb}
-use Rattle.trace.specs.Format.{when◌then◌else◌}
 use Rattle.trace.proofs.Lists.{take-pad}
-use Rattle.capture.specs.Advances.{Earlier, none, was, some}
 use Rattle.capture.specs.Replay.{Progress}
-use Rattle.capture.specs.Lent.{progress_in, stamp_fits, stamp_or0, replay_of}
+use Rattle.capture.specs.Lent.{progress_in, stamp_fits, replay_of}
 use Rattle.capture.specs.inner.Keeps.{Fits}
 
-same_earlier : (e : Earlier) → (when some e then was (stamp_or0 e) else none) ≡ e
-same_earlier none = refl
-same_earlier (was e) = refl
-
 pub read_kept : (r : Progress) → progress_in (replay_of r) ≡ r
-read_kept r = λ i. record { earlier = same_earlier r.earlier i; stamp = take-pad 4 r.stamp i; answered = r.answered; ended = r.ended }
+read_kept r = λ i. record { earlier = r.earlier; stamp = take-pad 4 r.stamp i; answered = r.answered; ended = r.ended }
 
 pub stamp_kept : (r : Progress) → Fits r → stamp_fits (replay_of r) ≡ true
 stamp_kept r f = le-leb (length r.stamp) 4 f.stamp

@@ -8,11 +8,12 @@ use native.Mathlib.Omega.{arith}
 use lib.ListN.{length}
 use lib.Dec.{leb, eqb}
 use borrow.Author.Tests.{eqb-true, eq-eqb, ne_eqb, leb-true, le-leb, not-true}
+use Rattle.std.specs.Prelude.{is_some}
 use Rattle.bits.proofs.Tests.{both, both_left, both_right, or_last, not_both}
 use Rattle.times.specs.declared.Nanos.{Nanos}
 use Rattle.trace.specs.Format.{when◌then◌else◌}
 use Rattle.trace.proofs.Tests.{if_true, if_false}
-use Rattle.capture.specs.Advances.{Earlier, some, stamp_in, back, between, due}
+use Rattle.capture.specs.Advances.{Earlier, stamp_in, back, between, due}
 use Rattle.capture.specs.Replay.{Progress, end_fits, matches}
 use Rattle.capture.specs.Exactly.{Matching, MatchesExactly}
 
@@ -105,7 +106,7 @@ holds [] r m =
       ended33 = f.by33;
     }
 holds (k ∷ rest) r m =
-    let a = some r.earlier in
+    let a = is_some r.earlier in
     let b = eqb (length r.stamp) 0 in
     let c = eqb r.answered 0 in
     let d = eqb r.ended 0 in

@@ -11,6 +11,7 @@ use lib.ListN.{length, drop, replicate, length-replicate}
 use lib.Seq.{take-length}
 use lib.Dec.{eqb}
 use borrow.Author.Tests.{ne_eqb}
+use Rattle.std.specs.Prelude.{None, Some, is_some}
 use Rattle.bits.proofs.Bytes.{bytes_append}
 use Rattle.bits.proofs.Numbers.{four_bytes}
 use Rattle.times.specs.declared.Nanos.{Nanos}
@@ -26,7 +27,7 @@ use Rattle.trace.proofs.Cutting.{Partial}
 use Rattle.trace.proofs.Gathering.{begun_partial, short_partial}
 use Rattle.trace.proofs.Records.{carrying, feed_incomplete}
 use Rattle.trace.proofs.Loop.{Ends}
-use Rattle.capture.specs.Advances.{Earlier, none, was, some, stamp_in, back, between, due, advance}
+use Rattle.capture.specs.Advances.{Earlier, stamp_in, back, between, due, advance}
 use Rattle.capture.specs.Replay.{Progress, Replayed, fresh, more_answered, still, later, advancing, kind_byte, replay_open, replay}
 use Rattle.capture.specs.Exactly.{Stand, stand_after, LeadsTo, Reached}
 use Rattle.capture.specs.inner.Keeps.{Stamped}
@@ -113,24 +114,24 @@ module _ {S : Type 0} (D : Device S) where
 
   -- ---- a record
   -- the first: link up, with the stamp e
-  first_record : (s : S) (e : Stamp) → e.0 < wraps → LeadsTo D (before s [] fresh) [] (at (was e) [] 0 0)
+  first_record : (s : S) (e : Stamp) → e.0 < wraps → LeadsTo D (before s [] fresh) [] (at (Some e) [] 0 0)
   unfolding replay_open kind_byte advancing byte known body size_of due back between
   first_record s e h =
-      by_call s [] fresh 8 (bytes_of e ++ 5 ∷ []) [] (at (was e) [] 0 0) _ (bytes_append (bytes_of e) (5 ∷ []) (bytes_of_stamp e) (omega arith, tt)) refl refl refl refl
-      (ap (λ (x : Stamp). at (was x) [] 0 0) (stamp_of_bytes e h))
+      by_call s [] fresh 8 (bytes_of e ++ 5 ∷ []) [] (at (Some e) [] 0 0) _ (bytes_append (bytes_of e) (5 ∷ []) (bytes_of_stamp e) (omega arith, tt)) refl refl refl refl
+      (ap (λ (x : Stamp). at (Some x) [] 0 0) (stamp_of_bytes e h))
 
   -- part of the first, with the stamp e
   part_record : (s : S) (e : Stamp) (k : ℕ) (rest : List ℕ) → e.0 < wraps → Bytes (k ∷ rest) → Partial (k ∷ rest) → eqb k 1 ≡ false
-      → LeadsTo D (before s [] (at none (bytes_of e) 0 0)) (k ∷ rest) (at (was e) [] 0 0)
+      → LeadsTo D (before s [] (at None (bytes_of e) 0 0)) (k ∷ rest) (at (Some e) [] 0 0)
   unfolding due back between
   part_record s e k rest h b w f =
-      let r = at none (bytes_of e) 0 0 in
+      let r = at None (bytes_of e) 0 0 in
       let c = k ∷ rest in
       let ready : AtRecord r c = record { kind = k; more = rest; bytes = refl; in_order = record { stamped = refl; forward = refl; kind = f }; answered = refl } in
       let z : Ends D s 0 c 0 (length c) =
       record { short = short_partial c w; there = omega arith; gives = rw (take-length c) (feed_incomplete D s c 0 w) } in
-      by_call s [] r 0 c c (at (was e) [] 0 0) _ b refl (no_record D s r 0 c 0 (length c) ready z) (take-length c) refl
-      (if_false (eqb (length c) 0) r _ (ne_eqb (length c) 0 (λ q. omega arith)) ∙ ap (λ (x : Stamp). at (was x) [] 0 0) (stamp_of_bytes e h))
+      by_call s [] r 0 c c (at (Some e) [] 0 0) _ b refl (no_record D s r 0 c 0 (length c) ready z) (take-length c) refl
+      (if_false (eqb (length c) 0) r _ (ne_eqb (length c) 0 (λ q. omega arith)) ∙ ap (λ (x : Stamp). at (Some x) [] 0 0) (stamp_of_bytes e h))
 
   -- ---- at a kind byte
   -- link up has no room
@@ -168,8 +169,8 @@ module _ {S : Type 0} (D : Device S) where
   -- ---- from a fresh start
   module _ (s : S) where
     begins_at : (e : Earlier) → Stamped e → LeadsTo D (before s [] fresh) [] (at e [] 0 0)
-    begins_at none h = stays_at s [] fresh
-    begins_at (was e) h = first_record s e h
+    begins_at None h = stays_at s [] fresh
+    begins_at (Some e) h = first_record s e h
 
     module _ (e : Earlier) (stamp : List ℕ) (h : Stamped e) (b : Bytes stamp) (l : length stamp ≤ 4) where
       answered_so : (n : ℕ) → n ≤ length (due e stamp) → LeadsTo D (before s [] fresh) [] (at e stamp n 0)
@@ -192,11 +193,11 @@ module _ {S : Type 0} (D : Device S) where
           is
 
     -- in a record
-    carried_so : (e : Earlier) → some e ≡ true → Stamped e → (k : ℕ) (rest : List ℕ) → Bytes (k ∷ rest) → Partial (k ∷ rest) → (k ≡ 1 → ⊥)
+    carried_so : (e : Earlier) → is_some e ≡ true → Stamped e → (k : ℕ) (rest : List ℕ) → Bytes (k ∷ rest) → Partial (k ∷ rest) → (k ≡ 1 → ⊥)
         → LeadsTo D (before s [] fresh) (k ∷ rest) (at e [] 0 0)
-    carried_so none q h k rest b w f = absurd (false≢true q)
-    carried_so (was e) q h k rest b w f =
-        and_then (takes_stamp s none (bytes_of e) (bytes_of_stamp e) (omega arith)) (λ s'. part_record s' e k rest h b w (ne_eqb k 1 f))
+    carried_so None q h k rest b w f = absurd (false≢true q)
+    carried_so (Some e) q h k rest b w f =
+        and_then (takes_stamp s None (bytes_of e) (bytes_of_stamp e) (omega arith)) (λ s'. part_record s' e k rest h b w (ne_eqb k 1 f))
 
   pub reached : Reached D
   reached s [] r m b c f =

@@ -9,6 +9,7 @@ use native.Mathlib.Numerals.{one-add}
 use lib.ListN.{length, drop, length-append, length-drop}
 use lib.Dec.{leb, ltb, eqb}
 use borrow.Author.Tests.{leb-true, ltb-true, eqb-true}
+use Rattle.std.specs.Prelude.{is_some}
 use Rattle.bits.proofs.Tests.{both_left, both_right, split}
 use Rattle.times.specs.declared.Nanos.{Nanos}
 use Rattle.trace.specs.Format.{when◌then◌else◌}
@@ -18,7 +19,6 @@ use Rattle.trace.proofs.Tests.{if_cases}
 use Rattle.trace.proofs.Cutting.{Partial}
 use Rattle.trace.proofs.Feeding.{Way, way, carries, full, ends, unknown, none_carried_lem, partial_more}
 use Rattle.trace.proofs.OneCall.{next_last}
-use Rattle.capture.specs.Advances as Advances
 use Rattle.capture.specs.Advances.{stamp_in, back, due, advance}
 use Rattle.capture.specs.Capture.{Role, of_stamp, of_kind, of_record, role_of}
 use Rattle.capture.specs.Replay.{Progress, Replayed, end_fits, matches, Does, takes, halts, more_answered, Advanced, in_record, at_kind, go_on, advancing, after_advances, kind_byte, byte_as, replay_open}
@@ -44,7 +44,7 @@ matched_stands [] r h e =
       some = leb-true r.answered (length (due r.earlier r.stamp)) (both_left b (end_fits r) (both_right a (b && end_fits r) e));
     }
 matched_stands (k ∷ rest) r h e =
-    let a = Advances.some r.earlier in
+    let a = is_some r.earlier in
     let b = eqb (length r.stamp) 0 in
     let c = eqb r.answered 0 in
     let d = eqb r.ended 0 && not (eqb k 1) in
@@ -78,7 +78,7 @@ matched_ended [] r e =
     let b = leb r.answered (length (due r.earlier r.stamp)) in
     fits_ended r (both_right b (end_fits r) (both_right a (b && end_fits r) e))
 matched_ended (k ∷ rest) r e =
-    let a = Advances.some r.earlier in
+    let a = is_some r.earlier in
     let b = eqb (length r.stamp) 0 in
     let c = eqb r.answered 0 in
     let d = eqb r.ended 0 in

@@ -9,6 +9,7 @@ use lib.ListN.{length, take, drop, length-append, length-drop}
 use lib.Seq.{append_snoc, take-add, take_all}
 use lib.Dec.{ltb, eqb}
 use borrow.Author.Tests.{lt-ltb, le-ltb, eq-eqb}
+use Rattle.std.specs.Prelude.{Some, is_some}
 use Rattle.times.specs.declared.Nanos.{Nanos}
 use Rattle.trace.specs.Format.{when◌then◌else◌, Bytes, known, body, size_of, whole}
 use Rattle.trace.specs.Bench.{Device, Bench, Benched, cut, cut_in, runs, plain}
@@ -18,8 +19,7 @@ use Rattle.trace.proofs.Tests.{if_cases, if_true, if_false}
 use Rattle.bits.proofs.Bytes.{bytes_append}
 use Rattle.trace.proofs.Feeding.{Way, way, carries, full, ends, unknown, left_as, answered, feed-plain}
 use Rattle.trace.proofs.OneCall.{plain_append, Kept, open_keeps}
-use Rattle.capture.specs.Advances as Advances
-use Rattle.capture.specs.Advances.{was, stamp_in, back, due, advance, advance_bytes}
+use Rattle.capture.specs.Advances.{stamp_in, back, due, advance, advance_bytes}
 use Rattle.capture.specs.Capture.{Place, start, Role, of_stamp, of_kind, of_record, role_of, carried_after, trace_from, place_of}
 use Rattle.capture.specs.Replay.{Progress, Replayed, end_fits, Does, takes, halts, ended_with, more_stamp, more_answered, begins, Advanced, in_record, at_kind, go_on, advancing, after_advances, kind_byte, byte_as, replay_open}
 use Rattle.capture.specs.inner.Keeps.{Fits}
@@ -29,7 +29,7 @@ use Rattle.capture.proofs.Standing.{NextIs, next_is, next_stamp, next_kind, next
 -- ---- In a record: some record was begun, it is no 01, and nothing of a stamp is there
 abbrev pub Inside : List ℕ → Progress → Type 0
 Inside [] r = Unit {0}
-Inside (k ∷ rest) r = (r.stamp ≡ []) × (eqb k 1 ≡ false) × (Advances.some r.earlier ≡ true) × (r.ended ≡ 0)
+Inside (k ∷ rest) r = (r.stamp ≡ []) × (eqb k 1 ≡ false) × (is_some r.earlier ≡ true) × (r.ended ≡ 0)
 
 inside_none : (c : List ℕ) (r : Progress) → c ≡ [] → Inside c r
 inside_none [] r e = tt
@@ -185,7 +185,7 @@ module _ {S : Type 0} (D : Device S) (Good : S → Type 0) (keeps : RunKeeps D G
       or_true false = refl
 
   -- the bytes carried after a byte of a record begin as before
-  inside_after : (c : List ℕ) (b : ℕ) (r : Progress) → r.stamp ≡ [] → eqb (kind_at c b) 1 ≡ false → Advances.some r.earlier ≡ true → r.ended ≡ 0 → Inside (carried_after c b) r
+  inside_after : (c : List ℕ) (b : ℕ) (r : Progress) → r.stamp ≡ [] → eqb (kind_at c b) 1 ≡ false → is_some r.earlier ≡ true → r.ended ≡ 0 → Inside (carried_after c b) r
   inside_after c b r e f g h = if_cases (λ (l : List ℕ). Inside l r) (ltb (length c) (body (kind_at c b))) _ _ (λ _. more c f) (λ _. tt)
     where
       more : (c : List ℕ) → eqb (kind_at c b) 1 ≡ false → Inside (c ++ b ∷ []) r
@@ -325,7 +325,7 @@ module _ {S : Type 0} (D : Device S) (Good : S → Type 0) (keeps : RunKeeps D G
                     ∙ plain_more (T ++ advance_bytes ds) (a ++ x.answers) q b q' a' (ap (λ (m : List Nanos). plain D s (T ++ advance_bytes m)) (sym all) ∙ at_advanced.plainly) y.plainly
                     ∙ ap (left_as D q') (append_assoc a x.answers a');
                 place =
-                    (λ i. record { earlier = was (stamp_in r.stamp); stamp = []; carried = y.carried i })
+                    (λ i. record { earlier = Some (stamp_in r.stamp); stamp = []; carried = y.carried i })
                     ∙ sym (place_more done here v.place b of_kind e);
                 kept = y.kept;
                 fits = record { stamp = omega arith; bytes = tt; earlier = stamp_below r.stamp v.fits.bytes; answered = omega arith; ended = v.fits.ended };

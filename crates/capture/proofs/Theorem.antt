@@ -8,6 +8,7 @@ use lib.ListN.{length, take, drop, replicate, length-replicate, length-append, t
 use lib.Seq.{take-append_seam, drop-append_seam, take_at, drop_at}
 use lib.Dec.{eqb}
 use borrow.Author.Tests.{ne_eqb, eq-eqb, le-leb, eqb-true}
+use Rattle.std.specs.Prelude.{None}
 use Rattle.trace.specs.Format.{when◌then◌else◌, Bytes}
 use Rattle.trace.specs.Bench.{Device, Bench, Benched, plain}
 use Rattle.trace.specs.Outcome.{Outcome, first}
@@ -19,7 +20,7 @@ use Rattle.trace.proofs.Feeding.{left_as, plain_partial}
 use Rattle.trace.proofs.Cutting.{Partial}
 use Rattle.trace.proofs.Gathering.{partial_begun}
 use Rattle.trace.proofs.Theorem.{one_trace}
-use Rattle.capture.specs.Advances.{none, stamp_in, back, due}
+use Rattle.capture.specs.Advances.{stamp_in, back, due}
 use Rattle.capture.specs.Capture.{Place, trace_from, place_after, place_of}
 use Rattle.capture.specs.Replay.{Progress, fresh, Replayed, end_fits, matches, still, later, replay_open, replay}
 use Rattle.capture.specs.Lent.{Held, progress_in, stamp_fits, replay_of, bench_in, place_in, matching, refusal_with, stops_first, leaves, replays, Fresh}
@@ -100,8 +101,8 @@ module _ {S H : Type 0} (L : Lent S H) (h₀ : Held H) (Good : S → Type 0) (K 
   matched_in r [] l n e i = rw (le-leb (length r.stamp) 4 l, le-leb r.answered (length (due r.earlier r.stamp)) n, e)
   matched_in r (k ∷ rest) l n e i =
       let m : length r.stamp ≡ 0 = ap length i.0 in
-      let none : r.answered ≡ 0 = omega (arith, n, ap length (due_none r.earlier r.stamp (omega arith))) in
-      rw (i.2, eq-eqb (length r.stamp) 0 m, eq-eqb r.answered 0 none, eq-eqb r.ended 0 i.3, i.1)
+      let unanswered : r.answered ≡ 0 = omega (arith, n, ap length (due_none r.earlier r.stamp (omega arith))) in
+      rw (i.2, eq-eqb (length r.stamp) 0 m, eq-eqb r.answered 0 unanswered, eq-eqb r.ended 0 i.3, i.1)
 
   -- lent memory that is accepted, where the plain bench stands after the trace that the consumed bytes `done` stand for as it does, with the answers a
   record On (done a : List ℕ) (h : Held H) : Type 0 where
@@ -376,7 +377,7 @@ module _ {S H : Type 0} (L : Lent S H) (h₀ : Held H) (Good : S → Type 0) (K 
       subst (λ (l : Progress). There [] [] p l) (sym e)
       (record {
         plainly = plain_partial D s₀ [] tt ∙ (λ i. record { state = sym d i; carried = sym c i; answers = [] });
-        place = λ i. record { earlier = none; stamp = []; carried = c i };
+        place = λ i. record { earlier = None; stamp = []; carried = c i };
         kept = record { partial = nothing_partial p.carried c; bytes = nothing_bytes p.carried c; good = subst Good (sym d) g };
         fits = record { stamp = omega arith; bytes = tt; earlier = tt; answered = omega arith; ended = omega arith };
         some = omega arith;

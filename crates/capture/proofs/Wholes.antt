@@ -8,6 +8,7 @@ use native.Mathlib.Nat.{sub-zero, zero-add}
 use lib.ListN.{length, drop, length-append}
 use lib.Seq.{drop_at, drop-drop, drop-length}
 use lib.Dec.{eqb}
+use Rattle.std.specs.Prelude.{Some}
 use Rattle.times.specs.declared.Nanos.{Nanos}
 use Rattle.ticks.specs.declared.Stamp.{Stamp}
 use Rattle.bits.proofs.Bytes.{bytes_append}
@@ -19,7 +20,7 @@ use Rattle.trace.specs.Exactly.{joined_up, AllWhole}
 use Rattle.trace.proofs.Records.{carrying, complete_at, feed_complete}
 use Rattle.trace.proofs.Fronts.{whole-front}
 use Rattle.trace.proofs.Records as Records
-use Rattle.capture.specs.Advances.{was, stamp_in, back, due, advance, advance_bytes}
+use Rattle.capture.specs.Advances.{stamp_in, back, due, advance, advance_bytes}
 use Rattle.capture.specs.Replay.{Progress, after_entry, more_answered, later, replay_open}
 use Rattle.capture.proofs.Advancing.{bytes_advance, advance-whole}
 use Rattle.capture.proofs.Steps.{InOrder, AtRecord, more_stamps, none_more, one_then, later-zero, later-later, stamps, one_advance, whole_record}
@@ -109,17 +110,17 @@ module _ {S : Type 0} (D : Device S) where
       ∙ (λ i. later 0 (x.answer ++ y.answer) (replay_open D (carrying y.state []) (sym (one_then (length ts) r) i) (n i) (b ∷ bs)))
 
   -- REPLAY ON A WHOLE ENTRY, with room for the answers of its advances and its record
-  pub entry_runs : (s : S) (e : Stamp) (stamp bytes rest : List ℕ) (room : ℕ) → length stamp ≡ 4 → back (was e) (stamp_in stamp) ≡ false
-      → next bytes ≡ complete bytes → eqb (kind_at bytes 0) 1 ≡ false → 8 * length (due (was e) stamp) + 8 ≤ room
-      → (let x = runs D s (map advance (due (was e) stamp)) in
+  pub entry_runs : (s : S) (e : Stamp) (stamp bytes rest : List ℕ) (room : ℕ) → length stamp ≡ 4 → back (Some e) (stamp_in stamp) ≡ false
+      → next bytes ≡ complete bytes → eqb (kind_at bytes 0) 1 ≡ false → 8 * length (due (Some e) stamp) + 8 ≤ room
+      → (let x = runs D s (map advance (due (Some e) stamp)) in
       let z = D.run x.state bytes in
       replay_open D (carrying s []) (after_entry e) room ((stamp ++ bytes) ++ rest)
       ≡ later (4 + length bytes) (x.answer ++ z.answer)
-      (replay_open D (carrying z.state []) (after_entry (stamp_in stamp)) (room - (8 * length (due (was e) stamp) + 8)) rest))
+      (replay_open D (carrying z.state []) (after_entry (stamp_in stamp)) (room - (8 * length (due (Some e) stamp) + 8)) rest))
   entry_runs s e stamp [] rest room l f w k h = let c = complete_at [] [] w in absurd (omega (arith, c.fits))
   entry_runs s e stamp (k ∷ more) rest room l f w n h =
       let bytes = k ∷ more in
-      let ts = due (was e) stamp in
+      let ts = due (Some e) stamp in
       let q = more_stamps stamp (after_entry e) in
       let q' = more_answered (length ts) q in
       let x = runs D s (map advance ts) in

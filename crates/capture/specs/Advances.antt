@@ -1,5 +1,5 @@
 -- The advances that two neighbouring stamps stand for (02, Q-5).
-use Rattle.std.specs.Prelude.{ℕ, ◌+◌, ◌-◌, ◌*◌, ◌/◌, ◌%◌, Bool, true, false, List, [], ◌∷◌, ◌++◌, length, leb, eqb}
+use Rattle.std.specs.Prelude.{ℕ, ◌+◌, ◌-◌, ◌*◌, ◌/◌, ◌%◌, Bool, true, false, List, [], ◌∷◌, ◌++◌, length, leb, eqb, Option, Some, None}
 use Rattle.bits.specs.Bytes.{byte_at}
 use Rattle.times.specs.declared.Nanos.{Nanos}
 use Rattle.ticks.specs.declared.Stamp.{Stamp}
@@ -12,18 +12,13 @@ unfoldable pub stamp_in : List ℕ → Stamp
 stamp_in bytes = record { 0 = byte_at bytes 0 + 256 * byte_at bytes 1 + 65536 * byte_at bytes 2 + 16777216 * byte_at bytes 3 }
 
 -- the stamp of the record before: there is none before the first
-pub data Earlier : Type 0 where
-  none : Earlier
-  was : Stamp → Earlier
-
-abbrev pub some : Earlier → Bool
-some none = false
-some (was e) = true
+abbrev pub Earlier : Type 0
+Earlier = Option Stamp
 
 -- the recorder went back; the first stamp never does
 unfoldable pub back : Earlier → Stamp → Bool
-back none stamp = false
-back (was e) stamp = went_back (difference e stamp)
+back None stamp = false
+back (Some e) stamp = went_back (difference e stamp)
 
 -- ---- Advances
 -- the longest that one record 01 can say
@@ -40,8 +35,8 @@ advances t = when eqb t.0 0 then [] else (when leb t.0 longest_advance.0 then t 
 
 -- the advances from the stamp before to this one: the first stamp has none
 unfoldable pub between : Earlier → Stamp → List Nanos
-between none stamp = []
-between (was e) stamp = advances (in_nanos (difference e stamp))
+between None stamp = []
+between (Some e) stamp = advances (in_nanos (difference e stamp))
 
 -- THE ADVANCES DUE after the stamp bytes that are there: none until all 4 are, and none where the recorder went back
 unfoldable pub due : Earlier → (stamp : List ℕ) → List Nanos

@@ -1,8 +1,8 @@
 -- A capture: entries one after the other, each a stamp of 4 bytes and then one record other than 01. And the trace that it stands for.
-use Rattle.std.specs.Prelude.{ℕ, ◌≡◌, false, List, [], ◌∷◌, ◌++◌, length, take, ltb, eqb}
+use Rattle.std.specs.Prelude.{ℕ, ◌≡◌, false, List, [], ◌∷◌, ◌++◌, length, take, ltb, eqb, None, Some}
 use Rattle.trace.specs.Format.{when◌then◌else◌, body, next, complete}
 use Rattle.trace.specs.Feed.{kind_at}
-use Rattle.capture.specs.Advances.{Earlier, none, was, stamp_in, due, advance_bytes}
+use Rattle.capture.specs.Advances.{Earlier, stamp_in, due, advance_bytes}
 
 -- ---- Whole entries
 pub record Entry : Type 0 where
@@ -25,11 +25,11 @@ entry_bytes (e ∷ es) = (e.stamp ++ e.record_bytes) ++ entry_bytes es
 -- THE TRACE OF WHOLE ENTRIES: before each record the advances from the stamp before
 abbrev pub entry_trace : Earlier → List Entry → List ℕ
 entry_trace before [] = []
-entry_trace before (e ∷ es) = (advance_bytes (due before e.stamp) ++ e.record_bytes) ++ entry_trace (was (stamp_in e.stamp)) es
+entry_trace before (e ∷ es) = (advance_bytes (due before e.stamp) ++ e.record_bytes) ++ entry_trace (Some (stamp_in e.stamp)) es
 
 abbrev pub last_stamp : Earlier → List Entry → Earlier
 last_stamp before [] = before
-last_stamp before (e ∷ es) = last_stamp (was (stamp_in e.stamp)) es
+last_stamp before (e ∷ es) = last_stamp (Some (stamp_in e.stamp)) es
 
 -- ---- Any consumed bytes, byte by byte
 -- where the consumed bytes leave off: the stamp of the last record whose kind byte is consumed, the bytes of a stamp, the bytes of a record that is not complete
@@ -39,7 +39,7 @@ pub record Place : Type 0 where
   pub carried : List ℕ
 
 abbrev pub start : Place
-start = record { earlier = none; stamp = []; carried = [] }
+start = record { earlier = None; stamp = []; carried = [] }
 
 -- what the next byte belongs to: a stamp, a record as its kind, or a record as a byte after that
 pub data Role : Type 0 where
@@ -57,7 +57,7 @@ carried_after carried b = when ltb (length carried) (body (kind_at carried b)) t
 
 abbrev pub place_at : Role → Place → ℕ → Place
 place_at of_stamp p b = record { earlier = p.earlier; stamp = p.stamp ++ b ∷ []; carried = p.carried }
-place_at of_kind p b = record { earlier = was (stamp_in p.stamp); stamp = []; carried = carried_after p.carried b }
+place_at of_kind p b = record { earlier = Some (stamp_in p.stamp); stamp = []; carried = carried_after p.carried b }
 place_at of_record p b = record { earlier = p.earlier; stamp = p.stamp; carried = carried_after p.carried b }
 
 -- what a consumed byte adds to the trace: a stamp's byte nothing; the kind byte its stamp's advances, and itself; a record's byte itself

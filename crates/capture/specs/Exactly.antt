@@ -1,5 +1,5 @@
 -- What advances, whole entries and a match of the state of a replay mean, exactly.
-use Rattle.std.specs.Prelude.{ℕ, ◌+◌, ◌*◌, ◌≤◌, ◌<◌, ◌≡◌, true, false, ◌⊎◌, List, [], ◌∷◌, ◌++◌, length, take}
+use Rattle.std.specs.Prelude.{ℕ, ◌+◌, ◌*◌, ◌≤◌, ◌<◌, ◌≡◌, true, false, ◌⊎◌, List, [], ◌∷◌, ◌++◌, length, take, None, Some, is_some}
 use Rattle.bits.specs.Bytes.{Bytes, byte_at}
 use Rattle.bits.specs.Orders.{Among}
 use Rattle.times.specs.declared.Nanos.{Nanos}
@@ -8,7 +8,7 @@ use Rattle.ticks.specs.Ticks.{difference, went_back}
 use Rattle.trace.specs.Format.{next, complete, begun}
 use Rattle.trace.specs.Bench.{Device, Bench}
 use Rattle.trace.specs.Calls.{Call, BytesIn}
-use Rattle.capture.specs.Advances.{Earlier, none, was, some, stamp_in, back, between, due, advance, advance_bytes}
+use Rattle.capture.specs.Advances.{Earlier, stamp_in, back, between, due, advance, advance_bytes}
 use Rattle.capture.specs.Capture.{Entry, AreEntries, entry_bytes, entry_trace, last_stamp, place_of, stands_for}
 use Rattle.capture.specs.Replay.{Progress, fresh, matches, replay}
 use Rattle.capture.specs.inner.Keeps.{Fits}
@@ -48,13 +48,13 @@ pub record IsAdvance (t : Nanos) (record_bytes : List ℕ) : Type 0 where
 pub record AdvancesExactly : Type 0 where
   -- they are those of the difference, where the recorder did not go back
   pub are : (earlier : Stamp) (stamp : List ℕ) → length stamp ≡ 4 → went_back (difference earlier (stamp_in stamp)) ≡ false
-      → AreAdvances (difference earlier (stamp_in stamp)).0 (due (was earlier) stamp)
+      → AreAdvances (difference earlier (stamp_in stamp)).0 (due (Some earlier) stamp)
   -- and no other list adds up to it so
   pub only : (earlier : Stamp) (stamp : List ℕ) → length stamp ≡ 4 → went_back (difference earlier (stamp_in stamp)) ≡ false
-      → (ts : List Nanos) → LongestFirst ts → total ts ≡ 4 * (difference earlier (stamp_in stamp)).0 → ts ≡ due (was earlier) stamp
+      → (ts : List Nanos) → LongestFirst ts → total ts ≡ 4 * (difference earlier (stamp_in stamp)).0 → ts ≡ due (Some earlier) stamp
   -- none where it went back, at the first stamp, or before the last byte of a stamp
-  pub where_back : (earlier : Stamp) (stamp : List ℕ) → went_back (difference earlier (stamp_in stamp)) ≡ true → due (was earlier) stamp ≡ []
-  pub at_first : (stamp : List ℕ) → due none stamp ≡ []
+  pub where_back : (earlier : Stamp) (stamp : List ℕ) → went_back (difference earlier (stamp_in stamp)) ≡ true → due (Some earlier) stamp ≡ []
+  pub at_first : (stamp : List ℕ) → due None stamp ≡ []
   pub before_last : (earlier : Earlier) (stamp : List ℕ) → length stamp < 4 → due earlier stamp ≡ []
   -- each is one record
   pub records : (t : Nanos) → t.0 ≤ 4294967295 → IsAdvance t (advance t)
@@ -62,14 +62,14 @@ pub record AdvancesExactly : Type 0 where
 -- ---- Whole entries
 -- What the bytes of whole entries stand for, and where they leave off
 pub record Entries : Type 0 where
-  pub trace : (es : List Entry) → AreEntries es → stands_for (entry_bytes es) 0 ≡ entry_trace none es
-  pub place : (es : List Entry) → AreEntries es → place_of (entry_bytes es) ≡ record { earlier = last_stamp none es; stamp = []; carried = [] }
+  pub trace : (es : List Entry) → AreEntries es → stands_for (entry_bytes es) 0 ≡ entry_trace None es
+  pub place : (es : List Entry) → AreEntries es → place_of (entry_bytes es) ≡ record { earlier = last_stamp None es; stamp = []; carried = [] }
   -- with some bytes of a stamp after them, and n of its advances answered
   pub stamped : (es : List Entry) → AreEntries es → (stamp : List ℕ) → length stamp ≤ 4 → (n : ℕ)
-      → stands_for (entry_bytes es ++ stamp) n ≡ entry_trace none es ++ advance_bytes (take n (due (last_stamp none es) stamp))
+      → stands_for (entry_bytes es ++ stamp) n ≡ entry_trace None es ++ advance_bytes (take n (due (last_stamp None es) stamp))
   -- and with a stamp and the start of a record
   pub carrying : (es : List Entry) → AreEntries es → (stamp carried : List ℕ) → length stamp ≡ 4 → begun carried ≡ true → 0 < length carried
-      → stands_for (entry_bytes es ++ (stamp ++ carried)) 0 ≡ entry_trace none es ++ (advance_bytes (due (last_stamp none es) stamp) ++ carried)
+      → stands_for (entry_bytes es ++ (stamp ++ carried)) 0 ≡ entry_trace None es ++ (advance_bytes (due (last_stamp None es) stamp) ++ carried)
 
 -- ---- The state of a replay
 -- what must hold of it and the port's carried bytes
@@ -78,7 +78,7 @@ pub record Matching (carried : List ℕ) (r : Progress) : Type 0 where
   -- at most 4 stamp bytes
   pub stamp_bytes : length r.stamp ≤ 4
   -- if bytes are carried: some record was begun, no stamp bytes, no advances answered, not ended, and the first carried byte is not 01
-  pub carried_begun : 0 < length carried → some r.earlier ≡ true
+  pub carried_begun : 0 < length carried → is_some r.earlier ≡ true
   pub carried_stamp : 0 < length carried → r.stamp ≡ []
   pub carried_answered : 0 < length carried → r.answered ≡ 0
   pub carried_ended : 0 < length carried → r.ended ≡ 0

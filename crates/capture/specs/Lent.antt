@@ -1,21 +1,19 @@
 -- A call of replay on what the caller lends and hands in: refusals, and every lent byte afterwards.
 use Rattle.std.specs.Prelude.{ℕ, ◌≡◌, Bool, true, ◌&&◌, List, ◌++◌, length, take, drop, leb}
-use Rattle.ticks.specs.declared.Stamp.{Stamp}
 use Rattle.trace.specs.Format.{when◌then◌else◌, pad}
 use Rattle.trace.specs.Outcome.{first}
 use Rattle.trace.specs.Bench.{Bench}
 use Rattle.trace.specs.Lent.{Lent, Left, unchanged, unless, refusal, Start}
 use Rattle.capture.specs.declared.Replay.{Replay}
-use Rattle.capture.specs.Advances.{Earlier, none, was, some}
 use Rattle.capture.specs.Capture.{Place}
 use Rattle.capture.specs.Replay.{Progress, Replayed, fresh, matches, replay_open}
 
 -- ---- The state of a replay as the code keeps it
--- what it stands for: the earlier stamp counts only if some record was begun
+-- what it stands for
 abbrev pub progress_in : Replay → Progress
 progress_in m =
     record {
-      earlier = when m.begun then was m.earlier else none;
+      earlier = m.earlier;
       stamp = take m.stamp_len m.stamp;
       answered = m.answered;
       ended = m.ended;
@@ -25,16 +23,11 @@ progress_in m =
 abbrev pub stamp_fits : Replay → Bool
 stamp_fits m = leb m.stamp_len 4
 
-abbrev pub stamp_or0 : Earlier → Stamp
-stamp_or0 none = record { 0 = 0 }
-stamp_or0 (was e) = e
-
--- what a call leaves: stamp bytes past the count are 0, and so is the earlier stamp if there is none
+-- what a call leaves: stamp bytes past the count are 0
 abbrev pub replay_of : Progress → Replay
 replay_of r =
     record {
-      begun = some r.earlier;
-      earlier = stamp_or0 r.earlier;
+      earlier = r.earlier;
       stamp_len = length r.stamp;
       stamp = pad 4 r.stamp;
       answered = r.answered;

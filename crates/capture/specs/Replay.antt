@@ -1,12 +1,12 @@
 -- One call of replay at an accepted bench, byte by byte.
-use Rattle.std.specs.Prelude.{ℕ, suc, ◌+◌, ◌-◌, Bool, true, false, not, ◌&&◌, ◌||◌, List, [], ◌∷◌, ◌++◌, length, drop, leb, ltb, eqb}
+use Rattle.std.specs.Prelude.{ℕ, suc, ◌+◌, ◌-◌, Bool, true, false, not, ◌&&◌, ◌||◌, List, [], ◌∷◌, ◌++◌, length, drop, leb, ltb, eqb, None, Some, is_some}
 use Rattle.times.specs.declared.Nanos.{Nanos}
 use Rattle.ticks.specs.declared.Stamp.{Stamp}
 use Rattle.trace.specs.Format.{when◌then◌else◌}
 use Rattle.trace.specs.Bench.{Device, Ran, Bench}
 use Rattle.trace.specs.Feed.{Step, took, stop, byte}
 use Rattle.trace.specs.Lent.{unless}
-use Rattle.capture.specs.Advances.{Earlier, none, was, some, stamp_in, back, due, advance}
+use Rattle.capture.specs.Advances.{Earlier, stamp_in, back, due, advance}
 use Rattle.capture.specs.Capture.{Role, of_stamp, of_kind, of_record, role_of}
 
 -- THE STATE OF A REPLAY: the stamp of the last record whose kind byte was consumed, the stamp bytes taken since, how many of that stamp's advances
@@ -18,11 +18,11 @@ pub record Progress : Type 0 where
   pub ended : ℕ
 
 abbrev pub fresh : Progress
-fresh = record { earlier = none; stamp = []; answered = 0; ended = 0 }
+fresh = record { earlier = None; stamp = []; answered = 0; ended = 0 }
 
 -- between two entries, the first of which has this stamp
 abbrev pub after_entry : Stamp → Progress
-after_entry stamp = record { earlier = was stamp; stamp = []; answered = 0; ended = 0 }
+after_entry stamp = record { earlier = Some stamp; stamp = []; answered = 0; ended = 0 }
 
 -- ended is 0; or 32, where the recorder went back, or 33, where it did not, with all 4 bytes of the stamp
 unfoldable pub end_fits : Progress → Bool
@@ -32,7 +32,7 @@ end_fits r = eqb r.ended 0 || (eqb (length r.stamp) 4 && eqb r.ended (when back 
 -- record: some record was begun, it is no 01, nothing of a stamp is there, none is answered, and it is not ended
 unfoldable pub matches : (carried : List ℕ) → Progress → Bool
 matches [] r = leb (length r.stamp) 4 && (leb r.answered (length (due r.earlier r.stamp)) && end_fits r)
-matches (kind ∷ rest) r = some r.earlier && (eqb (length r.stamp) 0 && (eqb r.answered 0 && (eqb r.ended 0 && not (eqb kind 1))))
+matches (kind ∷ rest) r = is_some r.earlier && (eqb (length r.stamp) 0 && (eqb r.answered 0 && (eqb r.ended 0 && not (eqb kind 1))))
 
 -- what one call comes to
 pub record Replayed (S : Type 0) : Type 0 where
@@ -59,7 +59,7 @@ more_answered n r = record { earlier = r.earlier; stamp = r.stamp; answered = r.
 
 -- the kind byte is consumed: its stamp is the earlier one from now on
 abbrev pub begins : Progress → Progress
-begins r = record { earlier = was (stamp_in r.stamp); stamp = []; answered = 0; ended = r.ended }
+begins r = record { earlier = Some (stamp_in r.stamp); stamp = []; answered = 0; ended = r.ended }
 
 -- ---- The advances that are due
 -- the device after those that were answered, how many they are, their answers, and whether one is left without room

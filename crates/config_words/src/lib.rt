@@ -1,16 +1,17 @@
 // The lent words of configuration space, 64 to a slot: the resets of a slot, of one slot after the other, and of all words.
+// Kept in this file: live words, defaults and slot are passed one by one, since a struct of them would hide which list changes.
 #![tactic(auto)]
 
-ghost use Rattle.std.specs.Prelude.{◌≡◌, ◌+◌, ◌*◌, ◌<◌, ◌≤◌, min, length, get_or, set};
-ghost use Rattle.registers.specs.Rows.{masks};
+ghost use Rattle.std.specs.Prelude.{◌≡◌, ℕ, ◌+◌, ◌*◌, ◌<◌, ◌≤◌, min, length, get_or, set};
+ghost use Rattle.std.specs.Coded.{Coded-set};
 ghost use Rattle.registers.specs.inner.Masks.{with_defaults};
 ghost use Rattle.config_space.specs.Functions.{word_place, reset_where, in_slot, link_reset_slot, flr_reset_slot, cold_reset};
-ghost use Rattle.config_words.specs.inner.Resetting.{between, mask_in, by_mask, link_masks, flr_masks, link_masks_of, changing_between};
+ghost use Rattle.config_words.specs.inner.Resetting.{between, mask_in, by_mask, all_masks, link_masks, flr_masks, changing_between};
 
-use bits::at_most;
 use registers::{DEVICE_CONTROL, Kind, Masks, PMCSR};
 
 // The bits that take their defaults in a reset, of each word that software or the hardware changes; no other word has any.
+// Kept: ten names and not an array of ten masks, since an array would need a second one of the words' numbers beside it.
 #[derive(Clone, Copy)]
 pub struct ResetMasks {
     pub command: u32,
@@ -30,6 +31,7 @@ pub struct ResetMasks {
 pub struct LinkMasks {
     pub kind: Kind,
     pub masks: ResetMasks,
+    pub ghost given: { masks ≡ link_masks kind } by { Coded-set masks-code masks (link_masks kind) },
 }
 
 // Those words, with PMCSR at 44h and device control at 78h: 04h, 0Ch, 10h, 3Ch, 50h, 54h, 58h, 80h.
@@ -49,42 +51,37 @@ const MSI_DATA: usize = 22;
 
 const LINK_CONTROL: usize = 32;
 
-// When the link goes down.
-fn link_masks(table: &Masks, kind: Kind) -> ResetMasks
-    requires { table.now ≡ masks }
-    ensures { result ≡ link_masks kind }
+// The masks of those words, each as `mask` gives it for the word's number.
+fn each_mask<F: Fn(usize) -> u32>(mask: F) -> ResetMasks
+    requires { F.IsAlwaysCallable mask }
+    ensures { (of : ℕ → ℕ) → ((i x : ℕ) → F.post mask i x → x ≡ of i) → result ≡ all_masks of }
 {
     ResetMasks {
-        command: registers::link_mask(table, kind, COMMAND),
-        cache_line: registers::link_mask(table, kind, CACHE_LINE),
-        bar0: registers::link_mask(table, kind, BAR0),
-        interrupt_line: registers::link_mask(table, kind, INTERRUPT_LINE),
-        pmcsr: registers::link_mask(table, kind, PMCSR),
-        msi_control: registers::link_mask(table, kind, MSI_CONTROL),
-        msi_address: registers::link_mask(table, kind, MSI_ADDRESS),
-        msi_data: registers::link_mask(table, kind, MSI_DATA),
-        device_control: registers::link_mask(table, kind, DEVICE_CONTROL),
-        link_control: registers::link_mask(table, kind, LINK_CONTROL),
+        command: mask(COMMAND),
+        cache_line: mask(CACHE_LINE),
+        bar0: mask(BAR0),
+        interrupt_line: mask(INTERRUPT_LINE),
+        pmcsr: mask(PMCSR),
+        msi_control: mask(MSI_CONTROL),
+        msi_address: mask(MSI_ADDRESS),
+        msi_data: mask(MSI_DATA),
+        device_control: mask(DEVICE_CONTROL),
+        link_control: mask(LINK_CONTROL),
     }
+}
+
+// When the link goes down.
+fn link_masks(table: &Masks, kind: Kind) -> ResetMasks
+    ensures { result ≡ link_masks kind }
+{
+    each_mask(|i| registers::link_mask(table, kind, i))
 }
 
 // At an FLR.
 fn flr_masks(table: &Masks, kind: Kind) -> ResetMasks
-    requires { table.now ≡ masks }
     ensures { result ≡ flr_masks kind }
 {
-    ResetMasks {
-        command: registers::flr_mask(table, kind, COMMAND),
-        cache_line: registers::flr_mask(table, kind, CACHE_LINE),
-        bar0: registers::flr_mask(table, kind, BAR0),
-        interrupt_line: registers::flr_mask(table, kind, INTERRUPT_LINE),
-        pmcsr: registers::flr_mask(table, kind, PMCSR),
-        msi_control: registers::flr_mask(table, kind, MSI_CONTROL),
-        msi_address: registers::flr_mask(table, kind, MSI_ADDRESS),
-        msi_data: registers::flr_mask(table, kind, MSI_DATA),
-        device_control: registers::flr_mask(table, kind, DEVICE_CONTROL),
-        link_control: registers::flr_mask(table, kind, LINK_CONTROL),
-    }
+    each_mask(|i| registers::flr_mask(table, kind, i))
 }
 
 // The mask of word i.
@@ -110,12 +107,10 @@ fn mask_in(reset: ResetMasks, i: usize) -> u32
 fn reset_words(reset: ResetMasks, from: usize, to: usize, live: &mut [u32], defaults: &[u32])
     ensures { live.new ≡ reset_where (between from to) (by_mask reset) live.old defaults.now }
 {
-    let end = at_most(to, at_most(live.len(), defaults.len()));
-    let mut n = from;
-    while n < end {
+    let end = to.min(live.len()).min(defaults.len());
+    for n in from..end {
         let mask = mask_in(reset, n % 64);
         live[n] = registers::with_defaults(mask, live[n], defaults[n]);
-        n += 1;
     }
 }
 
@@ -180,7 +175,7 @@ fn word_index(slot: usize, i: usize, words: usize) -> usize
 fn whole_slots(live: usize, defaults: usize) -> usize
     ensures { (result * 64 ≤ live) × (result * 64 ≤ defaults) }
 {
-    at_most(live, defaults) / 64
+    live.min(defaults) / 64
 }
 
 // The reset of a slot, as far as both slices have it.
@@ -199,7 +194,6 @@ fn reset_slot(reset: ResetMasks, slot: usize, live: &mut [u32], defaults: &[u32]
 
 // Link down, in one slot.
 pub fn link_reset_slot(table: &Masks, kind: Kind, slot: usize, live: &mut [u32], defaults: &[u32])
-    requires { table.now ≡ masks }
     ensures { live.new ≡ link_reset_slot kind slot live.old defaults.now }
 {
     let reset = link_masks(table, kind);
@@ -208,7 +202,6 @@ pub fn link_reset_slot(table: &Masks, kind: Kind, slot: usize, live: &mut [u32],
 
 // FLR, its slot only.
 pub fn flr_reset_slot(table: &Masks, kind: Kind, slot: usize, live: &mut [u32], defaults: &[u32])
-    requires { table.now ≡ masks }
     ensures { live.new ≡ flr_reset_slot kind slot live.old defaults.now }
 {
     let reset = flr_masks(table, kind);
@@ -217,23 +210,19 @@ pub fn flr_reset_slot(table: &Masks, kind: Kind, slot: usize, live: &mut [u32], 
 
 // The masks of link down of a kind, to start a reset of one slot after the other.
 pub fn link_masks_of(table: &Masks, kind: Kind) -> LinkMasks
-    requires { table.now ≡ masks }
-    ensures { result ≡ link_masks_of kind }
+    ensures { result.kind ≡ kind }
 {
     LinkMasks {
-        kind: kind,
+        kind,
         masks: link_masks(table, kind),
     }
 }
 
 // The masks of a kind, read only if the last ones are of another kind.
 fn next_masks(table: &Masks, last: LinkMasks, kind: Kind) -> LinkMasks
-    requires table_value { table.now ≡ masks }
-    requires last_value { last ≡ link_masks_of last.kind }
-    ensures { result ≡ link_masks_of kind }
+    ensures { result.kind ≡ kind }
 {
-    let before = last.kind;
-    if registers::same_kind(before, kind) {
+    if last.kind == kind {
         last
     } else {
         link_masks_of(table, kind)
@@ -249,9 +238,7 @@ pub fn link_reset_next(
     live: &mut [u32],
     defaults: &[u32],
 ) -> LinkMasks
-    requires table_value { table.now ≡ masks }
-    requires last_value { last ≡ link_masks_of last.kind }
-    ensures value { result ≡ link_masks_of kind }
+    ensures kind_after { result.kind ≡ kind }
     ensures live_after { live.new ≡ link_reset_slot kind slot live.old defaults.now }
 {
     let next = next_masks(table, last, kind);
@@ -263,10 +250,6 @@ pub fn link_reset_next(
 pub fn cold_reset(live: &mut [u32], defaults: &[u32])
     ensures { live.new ≡ cold_reset live.old defaults.now }
 {
-    let end = at_most(live.len(), defaults.len());
-    let mut n = 0;
-    while n < end {
-        live[n] = defaults[n];
-        n += 1;
-    }
+    let end = live.len().min(defaults.len());
+    live[..end].copy_from_slice(&defaults[..end]);
 }

@@ -10,6 +10,7 @@ use borrow.Author.Tests.{ltb-true, ltb-false, ne_eqb}
 use Rattle.bits.proofs.Tests.{split}
 use Rattle.trace.specs.Format.{record_sizes, size_of}
 use Rattle.times.specs.declared.Nanos.{Nanos}
+use Rattle.std.specs.Prelude.{Option}
 use Rattle.messages.specs.declared.Message.{Message as MessageRead}
 use Rattle.records.specs.declared.Request.{Request}
 use Rattle.messages.specs.Messages.{read_message}
@@ -163,7 +164,7 @@ module _ (l : List ℕ) (at : ℕ) where
   pub reads_3 : get_or l at 0 ≡ 3 → (q : Request) → q ≡ record { slot = get_or l (at + 1) 0; word = get_or l (at + 2) 0; enables = get_or l (at + 3) 0 } → (v : ℕ) → v ≡ four l (at + 4) → Write q v ≡ decode (drop at l)
   reads_3 e q f v g = ap₂ Write (request_at q f) (g ∙ four_at 4) ∙ sym (decode_3 _ (kind_at_lem ∙ e))
 
-  pub reads_4 : get_or l at 0 ≡ 4 → (m : MessageRead) → m ≡ read_message (take 16 (drop (at + 1) l)) → Message m ≡ decode (drop at l)
+  pub reads_4 : get_or l at 0 ≡ 4 → (m : Option MessageRead) → m ≡ read_message (take 16 (drop (at + 1) l)) → Message m ≡ decode (drop at l)
   reads_4 e m g = ap Message (g ∙ ap (λ (d : List ℕ). read_message (take 16 d)) (sym (drop-drop 1 at l))) ∙ sym (decode_4 _ (kind_at_lem ∙ e))
 
   pub reads_10 : get_or l at 0 ≡ 10 → ClearBits (get_or l (at + 1) 0) ≡ decode (drop at l)

@@ -4,19 +4,16 @@ ghost use Rattle.trace.specs.Format.{size_of};
 ghost use Rattle.messages.specs.Messages.{read_message};
 ghost use Rattle.records.specs.Decode.{four, decode as decoded};
 
-use bits::{u32_of_u8, u64_of_u32, usize_of_u8};
 use messages::Message;
 use records::{Record, Request};
 
+// Kept: how many bytes must be there differs by the field that is read.
 // Four bytes from byte j on, all of which are there.
 fn four_in(input: &[u8], j: usize) -> u32
     requires { j + 4 ≤ length input.now }
     ensures { result ≡ four input.now j }
 {
-    u32_of_u8(input[j])
-        + 256 * u32_of_u8(input[j + 1])
-        + 65536 * u32_of_u8(input[j + 2])
-        + 16777216 * u32_of_u8(input[j + 3])
+    u32::from_le_bytes([input[j], input[j + 1], input[j + 2], input[j + 3]])
 }
 
 // Slot, word, enables, after the byte of kind at `at`.
@@ -25,14 +22,14 @@ fn request_at(input: &[u8], at: usize) -> Request
     ensures { result ≡ record { slot = get_or input.now (at + 1) 0; word = get_or input.now (at + 2) 0; enables = get_or input.now (at + 3) 0 } }
 {
     Request {
-        slot: usize_of_u8(input[at + 1]),
-        word: usize_of_u8(input[at + 2]),
+        slot: usize::from(input[at + 1]),
+        word: usize::from(input[at + 2]),
         enables: input[at + 3],
     }
 }
 
 // The 16 bytes of a message, after the byte of kind at `at`.
-fn message_at(input: &[u8], at: usize) -> Message
+fn message_at(input: &[u8], at: usize) -> Option<Message>
     requires { at + 17 ≤ length input.now }
     ensures { result ≡ read_message (take 16 (drop (at + 1) input.now)) }
 {
@@ -44,9 +41,9 @@ pub fn decode_at(input: &[u8], at: usize) -> Record
     requires { (at < length input.now) × (at + size_of (get_or input.now at 0) ≤ length input.now) }
     ensures { result ≡ decoded (drop at input.now) }
 {
-    let kind = input[at];
-    match kind {
-        0x01 => Record::Advance(times::nanos_of(u64_of_u32(four_in(input, at + 1)))),
+    // Kept: the byte of kind, as the papers number it.
+    match input[at] {
+        0x01 => Record::Advance(times::nanos_of(u64::from(four_in(input, at + 1)))),
         0x02 => Record::Read(request_at(input, at)),
         0x03 => Record::Write(request_at(input, at), four_in(input, at + 4)),
         0x04 => Record::Message(message_at(input, at)),
@@ -58,8 +55,8 @@ pub fn decode_at(input: &[u8], at: usize) -> Record
         0x0A => Record::ClearBits(input[at + 1]),
         0x0B => Record::Control(input[at + 1]),
         0x0C => Record::HardwareSet(
-            usize_of_u8(input[at + 1]),
-            usize_of_u8(input[at + 2]),
+            usize::from(input[at + 1]),
+            usize::from(input[at + 2]),
             four_in(input, at + 3),
         ),
         0x0D => Record::ReadBits,

@@ -1,19 +1,19 @@
 // A call's trace, the carried bytes and then the input, record by record; answers, and the bytes carried to the next call.
-ghost use Rattle.std.specs.Prelude.{◌≡◌, ◌++◌, ◌+◌, ◌≤◌, ◌<◌, length, get_or, take, drop};
+ghost use Rattle.std.specs.Prelude.{◌≡◌, ◌++◌, ◌+◌, ◌≤◌, ◌<◌, length, get_or, take, drop, MatchOption};
 ghost use Rattle.std.proofs.Math.Seq.{paste};
-ghost use Rattle.trace.specs.Format.{size_of, pad, longest, next};
+ghost use Rattle.trace.specs.Format.{size_of, pad, next};
 ghost use Rattle.trace.specs.inner.Gathered.{whole_size};
-ghost use Rattle.records.specs.Decode.{decode};
-ghost use Rattle.decode.specs.inner.Gathering.{ending_of};
+ghost use Rattle.decode.specs.inner.Gathering.{ending_of, StandsNext};
 
 use crate::decoding::decode_at;
 use crate::{Ending, Found};
-use records::Record;
 
 // How many bytes a record of each kind has, its byte of kind with them; 0 where there is no such kind.
+#[tactic(auto, unfolding(trace::specs::Format::size_of))]
 pub fn size_of(kind: u8) -> usize
     ensures { result ≡ size_of kind }
 {
+    // Kept: the byte of kind and the table of sizes with 0 for no kind, as `trace/Format.size_of` has it.
     match kind {
         0x01 => 5,
         0x02 => 4,
@@ -59,38 +59,22 @@ pub fn whole_size(carried: &[u8], len: usize, input: &[u8], space: usize) -> usi
     size
 }
 
-fn no_record() -> Found
-    ensures { result.size ≡ 0 }
-{
-    Found {
-        record: Record::NoKind,
-        size: 0,
-    }
-}
-
 // The record at `at` in the input, if it is whole and there is room for its answer.
-pub fn next_record(input: &[u8], at: usize, space: usize) -> Found
+pub fn next_record(input: &[u8], at: usize, space: usize) -> Option<Found>
     requires { at ≤ length input.now }
-    ensures size_value { result.size ≡ whole_size space (next (drop at input.now)) }
-    ensures record_value { 0 < result.size → result.«record» ≡ decode (drop at input.now) }
+    ensures { MatchOption result (whole_size space (next (drop at input.now)) ≡ 0) (StandsNext space (drop at input.now)) }
 {
     if input.len() <= at {
-        return no_record();
+        return None;
     }
     let size = size_of(input[at]);
-    if input.len() < at + size {
-        return no_record();
+    if input.len() < at + size || space < 8 || size == 0 {
+        return None;
     }
-    if space < 8 {
-        return no_record();
-    }
-    if size == 0 {
-        return no_record();
-    }
-    Found {
+    Some(Found {
         record: decode_at(input, at),
-        size: size,
-    }
+        size,
+    })
 }
 
 // The end of a call that completes no record of its trace: no byte is there, a kind that there is not, the start of a record, or a whole one, for
@@ -126,29 +110,13 @@ pub fn ending(carried: &[u8], len: usize, input: &[u8]) -> Ending
 }
 
 // The first n bytes of a call's trace, and zeros after them.
-pub fn first_bytes(carried: &[u8], len: usize, input: &[u8], n: usize) -> [u8; 17]
-    requires { (len ≤ length carried.now) × (n ≤ 17) × (n ≤ len + length input.now) }
-    ensures { result ≡ pad longest (take n (take len carried.now ++ input.now)) }
+pub fn first_bytes<const N: usize>(carried: &[u8], len: usize, input: &[u8], n: usize) -> [u8; N]
+    requires { (len ≤ length carried.now) × (n ≤ N) × (n ≤ len + length input.now) }
+    ensures { result ≡ pad N (take n (take len carried.now ++ input.now)) }
 {
-    let mut bytes = [0u8; 17];
-    let mut j = 0;
-    while j < n {
+    let mut bytes = [0; N];
+    for j in 0..n {
         bytes[j] = trace_byte(carried, len, input, j);
-        j += 1;
-    }
-    bytes
-}
-
-// The first n bytes of a call's trace, as they are carried, with zeros after them.
-pub fn carried_bytes(carried: &[u8], len: usize, input: &[u8], n: usize) -> [u8; 16]
-    requires { (len ≤ length carried.now) × (n ≤ 16) × (n ≤ len + length input.now) }
-    ensures { result ≡ pad 16 (take n (take len carried.now ++ input.now)) }
-{
-    let mut bytes = [0u8; 16];
-    let mut j = 0;
-    while j < n {
-        bytes[j] = trace_byte(carried, len, input, j);
-        j += 1;
     }
     bytes
 }
@@ -158,12 +126,5 @@ pub fn put_answer(answers: &mut [u8], at: usize, answer: [u8; 8])
     requires { at + 8 ≤ length answers.old }
     ensures { answers.new ≡ paste answers.old at answer 8 }
 {
-    answers[at] = answer[0];
-    answers[at + 1] = answer[1];
-    answers[at + 2] = answer[2];
-    answers[at + 3] = answer[3];
-    answers[at + 4] = answer[4];
-    answers[at + 5] = answer[5];
-    answers[at + 6] = answer[6];
-    answers[at + 7] = answer[7];
+    answers[at..at + 8].copy_from_slice(&answer);
 }

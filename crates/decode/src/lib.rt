@@ -6,7 +6,7 @@ pub mod gathering; // records from a call's trace, answers, and the bytes carrie
 
 use records::Record;
 
-// The record that stands next and how many bytes it has; with size 0 the call ends, and the record says nothing.
+// The record that stands next, and how many bytes it has.
 #[derive(Clone, Copy)]
 pub struct Found {
     pub record: Record,
@@ -14,6 +14,7 @@ pub struct Found {
 }
 
 // The end of a call: its number, and how many bytes are carried.
+// Kept: the number is the papers' (0, 30 or 31), which feed's theorem gives with the count in each case.
 #[derive(Clone, Copy)]
 pub struct Ending {
     pub number: u8,

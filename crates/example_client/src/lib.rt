@@ -1,15 +1,15 @@
 // A caller: a card of one slot, fed in two calls over memory of the caller's own; its result is said by the plain bench alone.
+// Kept in this file: what is lent goes as slices beside set-up and device, and how they fit stands in clauses, since a struct of `&mut` slices needs a clause on its ghost name in each function.
 #![tactic(auto)]
 
-ghost use Rattle.std.specs.Prelude.{◌≡◌, [], ◌∷◌, take};
+ghost use Rattle.std.specs.Prelude.{◌≡◌, [], ◌∷◌};
 ghost use Rattle.demand3.specs.Held.{held};
 ghost use Rattle.demand3.specs.Feeding.{feeds, calls};
-ghost use Rattle.bench.specs.Entries.{left_by_feed, outcome_is};
+ghost use Rattle.bench.specs.Entries.{left_by_feed};
 ghost use Rattle.two_calls.specs.Twice.{came, lend, ByPlainBench};
 
 use bench::Outcome;
 use bench_by_value::feed_first;
-use feed::Fed;
 use readiness::{Setup, Status};
 use records::Port;
 use two_calls::{Both, both_with};
@@ -22,27 +22,6 @@ struct Once {
     statuses: [Status; 1],
     live: [u32; 64],
     cells: [u32; 4],
-}
-
-fn once_with(fed: Fed, live: [u32; 64], cells: [u32; 4]) -> Once
-    ensures { result ≡ record { outcome = outcome_is fed; port = fed.port; statuses = take 1 fed.statuses; live = live; cells = cells } }
-{
-    let outcome = Outcome {
-        number: fed.number,
-        consumed: fed.consumed,
-        written: fed.written,
-    };
-    let port = fed.port;
-    let array = fed.statuses;
-    let status = array[0];
-    let statuses = [status];
-    Once {
-        outcome: outcome,
-        port: port,
-        statuses: statuses,
-        live: live,
-        cells: cells,
-    }
 }
 
 // One call of feed: the status stands first in the array of which one is lent.
@@ -61,24 +40,21 @@ fn feed_once(
 {
     let mut l = live;
     let mut c = cells;
-    let status = statuses[0];
-    let array = [status; 32];
+    let array = [statuses[0]; 32];
     let fed = feed_first(
         setup, port, array, 1, &mut l, defaults, &mut c, input, answers,
     );
-    once_with(fed, l, c)
-}
-
-fn both_of(one: Once, two: Once) -> Both
-    ensures { result ≡ record { first = one.outcome; second = two.outcome; port = two.port; statuses = two.statuses; live = two.live; cells = two.cells } }
-{
-    let first = one.outcome;
-    let second = two.outcome;
-    let port = two.port;
-    let statuses = two.statuses;
-    let live = two.live;
-    let cells = two.cells;
-    both_with(first, second, port, statuses, live, cells)
+    Once {
+        outcome: Outcome {
+            number: fed.number,
+            consumed: fed.consumed,
+            written: fed.written,
+        },
+        port: fed.port,
+        statuses: [fed.statuses[0]],
+        live: l,
+        cells: c,
+    }
 }
 
 // Two calls of feed, the second on what the first left.
@@ -108,12 +84,24 @@ fn feed_twice(
         first,
         first_answers,
     );
-    let p = one.port;
-    let s = one.statuses;
-    let l = one.live;
-    let c = one.cells;
-    let two = feed_once(setup, p, s, l, c, defaults, second, second_answers);
-    both_of(one, two)
+    let two = feed_once(
+        setup,
+        one.port,
+        one.statuses,
+        one.live,
+        one.cells,
+        defaults,
+        second,
+        second_answers,
+    );
+    both_with(
+        one.outcome,
+        two.outcome,
+        two.port,
+        two.statuses,
+        two.live,
+        two.cells,
+    )
 }
 
 // The same, said by the plain bench.

@@ -3,51 +3,42 @@ ghost use Rattle.std.specs.Prelude.{◌≡◌, ◌<◌};
 ghost use Rattle.records.specs.Answer.{completion_number, interrupts, answer_bytes, reply};
 ghost use Rattle.frs_queue.specs.Queue.{no_tally};
 
-use bits::one_if;
 use frs_queue::Tally;
 use records::{Completion, Reply};
 
+// Kept: the status is a byte of the answer, numbered as in the papers.
 // The status of each completion.
 pub fn completion_number(completion: Completion) -> u8
     ensures { result ≡ completion_number completion }
 {
-    match completion {
-        Completion::Done => 0,
-        Completion::CrsShown => 16,
-        Completion::CrsRetry => 17,
-        Completion::Unsupported => 18,
-        Completion::NoReadinessMessage => 19,
-        Completion::NoSlot => 20,
-        Completion::NoWord => 21,
-        Completion::ClockEnd => 22,
-        Completion::WrongState => 23,
-        Completion::BadValue => 24,
-    }
+    completion as u8
 }
 
 // Interrupts: bit 0 Received, 1 Overflow, 2 DRS.
 fn interrupt_bits(tally: Tally) -> u8
     ensures { result ≡ interrupts tally }
 {
-    one_if(tally.received) + 2 * one_if(tally.overflow) + 4 * one_if(tally.drs)
+    u8::from(tally.received) + 2 * u8::from(tally.overflow) + 4 * u8::from(tally.drs)
 }
 
 pub fn answer_bytes(reply: Reply) -> [u8; 8]
     ensures { result ≡ answer_bytes reply }
 {
-    let completion = reply.completion;
-    let tally = reply.tally;
-    let status = completion_number(completion);
-    let raised = interrupt_bits(tally);
+    let Reply {
+        completion,
+        tally,
+        ..
+    } = reply;
+    let [first, second, third, fourth] = reply.data.to_le_bytes();
     [
-        status,
-        raised,
+        completion_number(completion),
+        interrupt_bits(tally),
         tally.queued,
         tally.dropped,
-        (reply.data % 256) as u8,
-        (reply.data / 256 % 256) as u8,
-        (reply.data / 65536 % 256) as u8,
-        (reply.data / 16777216 % 256) as u8,
+        first,
+        second,
+        third,
+        fourth,
     ]
 }
 
@@ -69,8 +60,8 @@ pub fn plain_reply(completion: Completion, data: u32) -> Reply
     ensures { result ≡ reply completion no_tally «data» }
 {
     Reply {
-        completion: completion,
+        completion,
         tally: no_tally(),
-        data: data,
+        data,
     }
 }

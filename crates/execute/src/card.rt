@@ -1,6 +1,6 @@
 // Records that touch every slot: advance clock, link up, link down, cold reset.
-ghost use Rattle.std.specs.Prelude.{◌≡◌, true, false, ◌&&◌, List, [], ℕ, ◌*◌, ◌≤◌, length};
-ghost use Rattle.registers.specs.Rows.{masks};
+// Kept in this file: what is lent goes as slices beside set-up and device, and how they fit stands in clauses, since a struct of `&mut` slices needs a clause on its ghost name in each function.
+ghost use Rattle.std.specs.Prelude.{◌≡◌, false, ◌&&◌, List, [], ℕ, ◌*◌, ◌≤◌, length, IsOk, IfOk, OnErr};
 ghost use Rattle.config_space.specs.Functions.{link_reset_all};
 ghost use Rattle.times.specs.Moments.{sum_of};
 ghost use Rattle.frs_queue.specs.Queue.{no_tally};
@@ -15,35 +15,29 @@ ghost use Rattle.records.specs.MadeReady.{readied_by};
 ghost use Rattle.readiness.specs.Fields.{with_clock};
 ghost use Rattle.records.specs.CardRecords.{advance_effect, link_up_effect, link_down_effect, cold_reset_effect};
 ghost use Rattle.readiness.specs.inner.Phases.{statuses_in, moments_in, notes};
-ghost use Rattle.records.specs.inner.Parts.{card_effect, card_run, card_ran, started_effect, is_refused};
+ghost use Rattle.records.specs.inner.Parts.{card_effect, card_run, card_ran, started_effect};
 ghost use Rattle.execute.specs.inner.Lent.{state_in, OfCard};
 
 use crate::answering::plain_reply;
 use crate::kinds::kind_of_entry;
 use crate::port::root_port;
 use readiness::{Dev, Setup};
-use records::{Completion, PortDone, Record, Reply, Started};
+use records::{Completion, PortDone, Record, Reply};
 use registers::Masks;
 use times::Nanos;
 
-fn with_clock(dev: Dev, clock: Nanos) -> Dev
-    ensures { result ≡ with_clock dev clock }
-{
-    let mut after = dev;
-    after.clock = clock;
-    after
-}
-
 // Advance clock; 22 if the clock would pass its end.
-fn advance(dev: Dev, by: Nanos) -> Started
-    ensures { (statuses : List Status) (live cells : List ℕ) → started_effect result statuses live cells
+fn advance(dev: Dev, by: Nanos) -> Result<Dev, Completion>
+    ensures by_index { (statuses : List Status) (live cells : List ℕ) → started_effect result statuses live cells
         ≡ advance_effect by (state dev statuses live cells) }
+    ensures moved { IfOk result (λ after. after ≡ with_clock dev (sum_of dev.clock by)) }
 {
     let clock = times::sum(dev.clock, by);
     if times::nanos_number(clock) <= times::CLOCK_END {
-        return Started::Does(with_clock(dev, clock));
+        Ok(Dev { clock, ..dev })
+    } else {
+        Err(Completion::ClockEnd)
     }
-    Started::Refused(Completion::ClockEnd)
 }
 
 // Advance clock where no slot becomes Ready and no DRS is to be told: the clock alone moves.
@@ -52,48 +46,43 @@ pub fn advance_alone(dev: Dev, by: Nanos) -> PortDone
         → due (sum_of dev.clock by) statuses ≡ [] → (dev.owed && all_ready setup statuses) ≡ false
         → card_run setup defaults (variants.Advance by) (state dev statuses live cells) ≡ record { after = state result.dev statuses live cells; reply = result.reply } }
 {
-    let clock = times::sum(dev.clock, by);
-    if times::nanos_number(clock) <= times::CLOCK_END {
-        return PortDone {
-            dev: with_clock(dev, clock),
+    match advance(dev, by) {
+        Ok(after) => PortDone {
+            dev: after,
             reply: plain_reply(Completion::Done, 0),
-        };
-    }
-    PortDone {
-        dev: dev,
-        reply: plain_reply(Completion::ClockEnd, 0),
+        },
+        Err(completion) => PortDone {
+            dev,
+            reply: plain_reply(completion, 0),
+        },
     }
 }
 
 // Link up: every slot Pending, a DRS is owed; 23 when up.
-fn link_up(setup: Setup, dev: Dev, phases: &mut [u64]) -> Started
+fn link_up(setup: Setup, dev: Dev, phases: &mut [u64]) -> Result<Dev, Completion>
     requires { (setup.slots ≤ 32) × (length (statuses_in phases.old) ≡ setup.slots) }
     ensures by_index { (live cells : List ℕ) → started_effect result (statuses_in phases.new) live cells
         ≡ link_up_effect setup (state_in dev phases.old live cells) }
-    ensures phases_unchanged { is_refused result ≡ true → phases.new ≡ phases.old }
+    ensures phases_unchanged { OnErr result (phases.new ≡ phases.old) }
     ensures phases_unchanged_2 { moments_in phases.new ≡ moments_in phases.old }
 {
     if dev.link {
-        return Started::Refused(Completion::WrongState);
+        return Err(Completion::WrongState);
     }
     settle::start_all(setup, dev, phases);
-    Started::Does(settle::after_link_up(dev))
+    Ok(settle::after_link_up(dev))
 }
 
 // Link down of the registers, slot by slot, each by its kind.
 fn reset_links(table: &Masks, setup: Setup, live: &mut [u32], defaults: &[u32])
-    requires table_value { table.now ≡ masks }
     requires slots_bound { (setup.slots ≤ 32) × (length live.old ≤ setup.slots * 64) }
     ensures { live.new ≡ link_reset_all (slot_kind setup) live.old defaults.now }
 {
     let first = setup.entries[0];
     let mut last = config_words::link_masks_of(table, kind_of_entry(first));
-    let mut i: usize = 0;
-    while i < setup.slots {
-        let entry = setup.entries[i];
-        let kind = kind_of_entry(entry);
-        last = config_words::link_reset_next(table, last, kind, i, &mut *live, defaults);
-        i += 1;
+    for i in 0..setup.slots {
+        let kind = kind_of_entry(setup.entries[i]);
+        last = config_words::link_reset_next(table, last, kind, i, live, defaults);
     }
 }
 
@@ -105,20 +94,19 @@ fn link_down(
     phases: &mut [u64],
     live: &mut [u32],
     defaults: &[u32],
-) -> Started
-    requires table_value { table.now ≡ masks }
+) -> Result<Dev, Completion>
     requires of_card { OfCard setup phases.old live.old }
     ensures by_index { (cells : List ℕ) → started_effect result (statuses_in phases.new) live.new cells
         ≡ link_down_effect setup defaults.now (state_in dev phases.old live.old cells) }
-    ensures phases_unchanged { is_refused result ≡ true → (phases.new ≡ phases.old) × (live.new ≡ live.old) }
+    ensures phases_unchanged { OnErr result ((phases.new ≡ phases.old) × (live.new ≡ live.old)) }
     ensures phases_unchanged_2 { moments_in phases.new ≡ moments_in phases.old }
 {
-    if dev.link {
-        reset_links(table, setup, live, defaults);
-        settle::stop_all(setup, dev, phases);
-        return Started::Does(settle::after_link_down(dev));
+    if !dev.link {
+        return Err(Completion::WrongState);
     }
-    Started::Refused(Completion::WrongState)
+    reset_links(table, setup, live, defaults);
+    settle::stop_all(setup, dev, phases);
+    Ok(settle::after_link_down(dev))
 }
 
 // Cold reset: live registers equal the defaults.
@@ -128,16 +116,16 @@ fn cold_reset(
     phases: &mut [u64],
     live: &mut [u32],
     defaults: &[u32],
-) -> Started
+) -> Result<Dev, Completion>
     requires { length (statuses_in phases.old) ≡ setup.slots }
     ensures by_index { (cells : List ℕ) → started_effect result (statuses_in phases.new) live.new cells
         ≡ cold_reset_effect setup defaults.now (state_in dev phases.old live.old cells) }
-    ensures result_value { is_refused result ≡ false }
+    ensures result_value { IsOk result }
     ensures phases_unchanged { moments_in phases.new ≡ moments_in phases.old }
 {
     config_words::cold_reset(live, defaults);
     settle::stop_all(setup, dev, phases);
-    Started::Does(settle::after_cold_reset(dev))
+    Ok(settle::after_cold_reset(dev))
 }
 
 // What a record that touches every slot does before slots become Ready; another one changes nothing and is answered with 0.
@@ -149,12 +137,11 @@ fn start(
     live: &mut [u32],
     defaults: &[u32],
     record: Record,
-) -> Started
-    requires table_value { table.now ≡ masks }
+) -> Result<Dev, Completion>
     requires of_card { OfCard setup phases.old live.old }
     ensures by_index { (cells : List ℕ) → started_effect result (statuses_in phases.new) live.new cells
         ≡ card_effect setup defaults.now «record» (state_in dev phases.old live.old cells) }
-    ensures phases_unchanged { is_refused result ≡ true → (phases.new ≡ phases.old) × (live.new ≡ live.old) }
+    ensures phases_unchanged { OnErr result ((phases.new ≡ phases.old) × (live.new ≡ live.old)) }
     ensures phases_unchanged_2 { moments_in phases.new ≡ moments_in phases.old }
 {
     match record {
@@ -162,16 +149,7 @@ fn start(
         Record::LinkUp => link_up(setup, dev, phases),
         Record::LinkDown => link_down(table, setup, dev, phases, live, defaults),
         Record::ColdReset => cold_reset(setup, dev, phases, live, defaults),
-        Record::Read(_) => Started::Refused(Completion::Done),
-        Record::Write(_, _) => Started::Refused(Completion::Done),
-        Record::HardwareSet(_, _, _) => Started::Refused(Completion::Done),
-        Record::Message(_) => Started::Refused(Completion::Done),
-        Record::ReadQueue => Started::Refused(Completion::Done),
-        Record::RemoveOldest => Started::Refused(Completion::Done),
-        Record::ClearBits(_) => Started::Refused(Completion::Done),
-        Record::Control(_) => Started::Refused(Completion::Done),
-        Record::ReadBits => Started::Refused(Completion::Done),
-        Record::NoKind => Started::Refused(Completion::Done),
+        _ => Err(Completion::Done),
     }
 }
 
@@ -206,27 +184,17 @@ pub fn run_card(
     cells: &mut [u32],
     record: Record,
 ) -> PortDone
-    requires table_value { table.now ≡ masks }
     requires of_card { OfCard setup phases.old live.old }
     ensures cells_after { card_ran result (statuses_in phases.new) live.new cells.new
         ≡ card_run setup defaults.now «record» (state_in dev phases.old live.old cells.old) }
     ensures phases_after { moments_in phases.new
         ≡ notes (readied_by (card_effect setup defaults.now «record» (state_in dev phases.old live.old cells.old))) (moments_in phases.old) }
 {
-    let started = start(
-        table,
-        setup,
-        dev,
-        &mut *phases,
-        &mut *live,
-        defaults,
-        record,
-    );
-    match started {
-        Started::Refused(completion) => PortDone {
-            dev: dev,
+    match start(table, setup, dev, phases, live, defaults, record) {
+        Ok(after) => settled(setup, after, phases, cells),
+        Err(completion) => PortDone {
+            dev,
             reply: plain_reply(completion, 0),
         },
-        Started::Does(after) => settled(setup, after, phases, cells),
     }
 }

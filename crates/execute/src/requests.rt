@@ -1,7 +1,7 @@
 // Records that touch one slot: configuration read, configuration write, hardware set.
+// Kept in this file: what is lent goes as slices beside set-up and device, and how they fit stands in clauses, since a struct of `&mut` slices needs a clause on its ghost name in each function.
 ghost use Rattle.std.specs.Prelude.{◌≡◌, cond, List, ℕ, ◌+◌, ◌*◌, ◌≤◌, ◌<◌, length};
 ghost use Rattle.bits.specs.Bits.{bit};
-ghost use Rattle.registers.specs.Rows.{masks};
 ghost use Rattle.config_space.specs.Functions.{link_reset_slot};
 ghost use Rattle.readiness.specs.declared.Dev.{Dev};
 ghost use Rattle.readiness.specs.declared.Slot.{Slot};
@@ -17,19 +17,17 @@ ghost use Rattle.records.specs.inner.Parts.{slot_effect, slot_answered, slot_rea
 use crate::answering::plain_reply;
 use crate::port::root_port;
 use crate::routing::{is_access, refused_data, route_completion, route_of};
-use readiness::{Dev, Moment, Slot, Status};
+use readiness::{Dev, Slot, Status};
 use records::{Completion, Reply, Request, SlotDone};
 use registers::{Kind, Masks};
 
 // As link down in that slot, if No_Soft_Reset is 0 in the new PMCSR; else no other bit changes.
 fn d3hot_reset(table: &Masks, kind: Kind, slot: usize, new: u32, live: &mut [u32], defaults: &[u32])
-    requires { table.now ≡ masks }
     ensures { live.new ≡ cond (bit new 3) live.old (link_reset_slot kind slot live.old defaults.now) }
 {
-    if new & 8 != 0 {
-        return;
+    if new & 8 == 0 {
+        config_words::link_reset_slot(table, kind, slot, live, defaults);
     }
-    config_words::link_reset_slot(table, kind, slot, live, defaults);
 }
 
 // Configuration write of a Ready slot: the write is finished first, then the FLR or the way from D3hot starts, if it is one.
@@ -44,7 +42,6 @@ fn write_ready(
     q: Request,
     value: u32,
 ) -> Status
-    requires table_value { table.now ≡ masks }
     requires slot_in_bounds { (q.slot * 64 + 64 ≤ length live.old) × (q.slot * 64 + 64 ≤ length defaults.now) × (q.word < 64) }
     ensures { (cells : List ℕ) → seat dev result live.new cells ≡ write_seat kind entry defaults.now q value (seat dev status live.old cells) }
 {
@@ -83,20 +80,15 @@ fn settled(
     ensures made_value { result.made ≡ made_by (due_event dev.clock slot status.phase) }
 {
     let settled = settle::settle_slot(bus, entry, slot, status, root_port(dev), cells);
-    let port = settled.port;
-    let after = settled.status;
-    let made = settled.made;
-    let dev = port.dev;
-    let tally = port.tally;
     SlotDone {
-        dev: dev,
-        status: after,
+        dev: settled.port.dev,
+        status: settled.status,
         reply: Reply {
             completion: Completion::Done,
-            tally: tally,
-            data: data,
+            tally: settled.port.tally,
+            data,
         },
-        made: made,
+        made: settled.made,
     }
 }
 
@@ -115,10 +107,8 @@ pub fn run_read(
 {
     let route = route_of(slots, kind, dev, status, true, q);
     if is_access(route) {
-        let slot = q.slot;
-        let word = q.word;
-        let at = slot * 64 + word;
-        let data = registers::read_word(kind, word, live[at], q.enables);
+        let at = q.slot * 64 + q.word;
+        let data = registers::read_word(kind, q.word, live[at], q.enables);
         return plain_reply(Completion::Done, data);
     }
     plain_reply(
@@ -143,10 +133,10 @@ fn finished(
 {
     if settle::is_ready(status) {
         return SlotDone {
-            dev: dev,
-            status: status,
+            dev,
+            status,
             reply: plain_reply(Completion::Done, 0),
-            made: Moment::Never,
+            made: None,
         };
     }
     settled(bus, entry, slot, dev, status, cells, 0)
@@ -168,7 +158,6 @@ pub fn run_write(
     q: Request,
     value: u32,
 ) -> SlotDone
-    requires table_value { table.now ≡ masks }
     requires slot_bound { (slot < 32) × (64 * slots ≤ length live.old) × (64 * slots ≤ length defaults.now) }
     ensures cells_after { slot_ran result live.new cells.new
         ≡ slot_run slots kind bus entry defaults.now slot (variants.Write q value) (seat dev status live.old cells.old) }
@@ -180,10 +169,10 @@ pub fn run_write(
         return finished(bus, entry, slot, dev, after, cells);
     }
     SlotDone {
-        dev: dev,
-        status: status,
+        dev,
+        status,
         reply: plain_reply(route_completion(route), 0),
-        made: Moment::Never,
+        made: None,
     }
 }
 
@@ -198,21 +187,20 @@ pub fn run_hardware(
     word: usize,
     mask: u32,
 ) -> Reply
-    requires table_value { table.now ≡ masks }
     requires slots_in_bounds { 64 * slots ≤ length live.old }
     ensures { (dev : Dev) (bus : ℕ) (entry : Slot) (defaults : List ℕ) (at : ℕ) (cells : List ℕ)
         → slot_run slots kind bus entry defaults at (variants.HardwareSet slot word mask) (seat dev status live.old cells) ≡ record { after = seat dev status live.new cells; reply = result } }
 {
-    if slots <= slot {
+    if slot >= slots {
         return plain_reply(Completion::NoSlot, 0);
     }
-    if 63 < word {
+    if word > 63 {
         return plain_reply(Completion::NoWord, 0);
     }
-    if settle::is_ready(status) {
-        let at = slot * 64 + word;
-        live[at] = registers::hardware_set(table, kind, word, live[at], mask);
-        return plain_reply(Completion::Done, 0);
+    if !settle::is_ready(status) {
+        return plain_reply(Completion::WrongState, 0);
     }
-    plain_reply(Completion::WrongState, 0)
+    let at = slot * 64 + word;
+    live[at] = registers::hardware_set(table, kind, word, live[at], mask);
+    plain_reply(Completion::Done, 0)
 }

@@ -8,44 +8,39 @@ use registers::{Kind, lane_mask};
 use times::Nanos;
 
 // A read of word 0 with enables 0 and 1.
+#[tactic(auto, using(crate::proofs::Tests::first_bit, crate::proofs::Tests::second_bit), unfolding(records::specs::Route::reads_vendor_id))]
 fn reads_vendor_id(is_read: bool, q: Request) -> bool
     ensures { result ≡ reads_vendor_id is_read q }
 {
-    is_read & (q.word == 0) & (q.enables & 1 != 0) & (q.enables & 2 != 0)
+    is_read && q.word == 0 && q.enables & 1 != 0 && q.enables & 2 != 0
 }
 
 // CRS at the root: shown, or to be re-issued.
+#[tactic(auto, unfolding(records::specs::Route::crs_of))]
 fn crs_of(visibility: bool, is_read: bool, q: Request) -> Crs
     ensures { result ≡ crs_of visibility is_read q }
 {
-    if visibility {
-        if reads_vendor_id(is_read, q) {
-            Crs::Shown
-        } else {
-            Crs::NotVendorId
-        }
-    } else {
+    if !visibility {
         Crs::VisibilityOff
+    } else if reads_vendor_id(is_read, q) {
+        Crs::Shown
+    } else {
+        Crs::NotVendorId
     }
 }
 
 // FLR in progress; else the slot is starting.
+#[tactic(auto, unfolding(records::specs::Route::pending_route))]
 fn pending_route(clock: Nanos, cause: Cause, ready: Nanos, crs: Crs) -> Route
     ensures { result ≡ pending_route clock cause ready crs }
 {
     match cause {
-        Cause::LinkUp => Route::Starting(Cause::LinkUp, ready, crs),
-        Cause::D3hot => Route::Starting(Cause::D3hot, ready, crs),
-        Cause::Flr(end) => {
-            if times::earlier(clock, end) {
-                Route::FlrInProgress(end)
-            } else {
-                Route::Starting(Cause::Flr(end), ready, crs)
-            }
-        }
+        Cause::Flr(end) if clock < end => Route::FlrInProgress(end),
+        _ => Route::Starting(cause, ready, crs),
     }
 }
 
+// Kept: what a route depends on, from parts of the device and the status; a struct for it would be made for this call alone.
 // By the slot's status, with the link up. How CRS is shown is asked for a slot alone that is starting.
 fn phase_route(clock: Nanos, phase: Phase, visibility: bool, is_read: bool, q: Request) -> Route
     ensures { result ≡ phase_route clock phase (crs_of visibility is_read q) }
@@ -63,6 +58,7 @@ fn phase_route(clock: Nanos, phase: Phase, visibility: bool, is_read: bool, q: R
 }
 
 // Order: 20, 21, 24, 18, then 16 or 17; the same for every kind. Access is for a slot and a word that there are.
+#[tactic(auto, unfolding(records::specs::Route::route_of))]
 pub fn route_of(
     slots: usize,
     kind: Kind,
@@ -74,22 +70,17 @@ pub fn route_of(
     ensures value { result ≡ route_of slots kind dev status is_read q }
     ensures slot_lt_slots { is_access result ≡ true → (q.slot < slots) × (q.word < 64) }
 {
-    if slots <= q.slot {
-        return Route::NoSlot;
+    if q.slot >= slots {
+        Route::NoSlot
+    } else if q.word > 63 {
+        Route::NoWord
+    } else if q.enables > 15 {
+        Route::BadEnables
+    } else if !dev.link {
+        Route::LinkDown
+    } else {
+        phase_route(dev.clock, status.phase, dev.control.visibility, is_read, q)
     }
-    if 63 < q.word {
-        return Route::NoWord;
-    }
-    if 15 < q.enables {
-        return Route::BadEnables;
-    }
-    if dev.link {
-        let phase = status.phase;
-        let control = dev.control;
-        let clock = dev.clock;
-        return phase_route(clock, phase, control.visibility, is_read, q);
-    }
-    Route::LinkDown
 }
 
 fn crs_completion(crs: Crs) -> Completion
@@ -97,8 +88,7 @@ fn crs_completion(crs: Crs) -> Completion
 {
     match crs {
         Crs::Shown => Completion::CrsShown,
-        Crs::VisibilityOff => Completion::CrsRetry,
-        Crs::NotVendorId => Completion::CrsRetry,
+        Crs::VisibilityOff | Crs::NotVendorId => Completion::CrsRetry,
     }
 }
 
@@ -110,8 +100,7 @@ pub fn route_completion(route: Route) -> Completion
         Route::NoSlot => Completion::NoSlot,
         Route::NoWord => Completion::NoWord,
         Route::BadEnables => Completion::BadValue,
-        Route::LinkDown => Completion::Unsupported,
-        Route::FlrInProgress(_) => Completion::Unsupported,
+        Route::LinkDown | Route::FlrInProgress(_) => Completion::Unsupported,
         Route::Starting(_, _, crs) => crs_completion(crs),
         Route::Access => Completion::Done,
     }
@@ -129,8 +118,7 @@ fn shown_data(enables: u8, crs: Crs) -> u32
 {
     match crs {
         Crs::Shown => crs_data(enables),
-        Crs::VisibilityOff => 0,
-        Crs::NotVendorId => 0,
+        Crs::VisibilityOff | Crs::NotVendorId => 0,
     }
 }
 
@@ -139,13 +127,9 @@ fn read_data(enables: u8, route: Route) -> u32
     ensures { result ≡ read_data enables route }
 {
     match route {
-        Route::NoSlot => 0,
-        Route::NoWord => 0,
-        Route::BadEnables => 0,
-        Route::LinkDown => lane_mask(enables),
-        Route::FlrInProgress(_) => lane_mask(enables),
+        Route::LinkDown | Route::FlrInProgress(_) => lane_mask(enables),
         Route::Starting(_, _, crs) => shown_data(enables, crs),
-        Route::Access => 0,
+        Route::NoSlot | Route::NoWord | Route::BadEnables | Route::Access => 0,
     }
 }
 
@@ -164,13 +148,5 @@ pub fn refused_data(is_read: bool, enables: u8, route: Route) -> u32
 pub fn is_access(route: Route) -> bool
     ensures { result ≡ is_access route }
 {
-    match route {
-        Route::NoSlot => false,
-        Route::NoWord => false,
-        Route::BadEnables => false,
-        Route::LinkDown => false,
-        Route::FlrInProgress(_) => false,
-        Route::Starting(_, _, _) => false,
-        Route::Access => true,
-    }
+    matches!(route, Route::Access)
 }

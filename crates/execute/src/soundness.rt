@@ -1,4 +1,5 @@
 // The test for refusal 5, but for the carried bytes.
+// Kept in this file: what is lent goes as slices beside set-up and device, and how they fit stands in clauses, since a struct of `&mut` slices needs a clause on its ghost name in each function.
 ghost use Rattle.std.specs.Prelude.{◌≡◌, ◌&&◌, List, ℕ, ◌+◌, ◌≤◌, ◌<◌, ltb, leb, length, get_or};
 ghost use Rattle.times.specs.Codes.{greatest_time};
 ghost use Rattle.frs_queue.specs.Queue.{place_of};
@@ -17,10 +18,7 @@ fn waits(clock: Nanos, ready: Nanos) -> bool
 {
     let now = times::nanos_number(clock);
     let then = times::nanos_number(ready);
-    if now < then {
-        return then - now <= times::GREATEST_TIME;
-    }
-    false
+    now < then && then - now <= times::GREATEST_TIME
 }
 
 // An FLR end isn't after its ready time.
@@ -28,9 +26,8 @@ fn sound_cause(cause: Cause, ready: Nanos) -> bool
     ensures { result ≡ sound_cause cause ready }
 {
     match cause {
-        Cause::LinkUp => true,
-        Cause::D3hot => true,
-        Cause::Flr(end) => times::by_then(end, ready),
+        Cause::LinkUp | Cause::D3hot => true,
+        Cause::Flr(end) => end <= ready,
     }
 }
 
@@ -38,9 +35,8 @@ fn sound_phase(clock: Nanos, phase: Phase) -> bool
     ensures { result ≡ sound_phase clock phase }
 {
     match phase {
-        Phase::Down => true,
-        Phase::Pending(cause, ready) => waits(clock, ready) & sound_cause(cause, ready),
-        Phase::Ready => true,
+        Phase::Down | Phase::Ready => true,
+        Phase::Pending(cause, ready) => waits(clock, ready) && sound_cause(cause, ready),
     }
 }
 
@@ -50,17 +46,14 @@ fn matches_link(link: bool, phase: Phase) -> bool
 {
     match phase {
         Phase::Down => !link,
-        Phase::Pending(_, _) => link,
-        Phase::Ready => link,
+        Phase::Pending(_, _) | Phase::Ready => link,
     }
 }
 
 fn sound_status(dev: Dev, status: Status) -> bool
     ensures { result ≡ sound_status dev status }
 {
-    let clock = dev.clock;
-    let phase = status.phase;
-    sound_phase(clock, phase) & matches_link(dev.link, phase)
+    sound_phase(dev.clock, status.phase) && matches_link(dev.link, status.phase)
 }
 
 // Each of the card's slots.
@@ -68,12 +61,8 @@ fn sound_statuses(slots: usize, dev: Dev, phases: &[u64]) -> bool
     requires { length (statuses_in phases.now) ≡ slots }
     ensures { result ≡ sound_statuses slots dev (statuses_in phases.now) }
 {
-    let mut i = 0;
-    while i < slots {
-        let status = status_at(phases, i);
-        if sound_status(dev, status) {
-            i += 1;
-        } else {
+    for i in 0..slots {
+        if !sound_status(dev, status_at(phases, i)) {
             return false;
         }
     }
@@ -93,10 +82,7 @@ fn cell_at(cells: &[u32], start: usize, k: usize) -> u32
 fn sound_cell(value: u32) -> bool
     ensures { result ≡ sound_cell value }
 {
-    if value < 1048576 {
-        return messages::frs_allowed((value / 65536) as u8);
-    }
-    false
+    value < 1048576 && messages::frs_allowed((value / 65536) as u8)
 }
 
 // Each live cell.
@@ -104,11 +90,8 @@ fn sound_cells(depth: usize, cells: &[u32], start: usize) -> bool
     requires { depth ≤ length cells.now }
     ensures { result ≡ sound_cells depth cells.now start }
 {
-    let mut k = 0;
-    while k < depth {
-        if sound_cell(cell_at(cells, start, k)) {
-            k += 1;
-        } else {
+    for k in 0..depth {
+        if !sound_cell(cell_at(cells, start, k)) {
             return false;
         }
     }
@@ -120,33 +103,22 @@ fn sound_owed(dev: Dev, slots: usize, phases: &[u64]) -> bool
     requires { length (statuses_in phases.now) ≡ slots }
     ensures { (setup : Setup) → setup.slots ≡ slots → result ≡ sound_owed setup dev (statuses_in phases.now) }
 {
-    if dev.owed {
-        dev.link & !settle::all_ready(slots, phases)
-    } else {
-        true
-    }
+    !dev.owed || (dev.link && !settle::all_ready(slots, phases))
 }
 
 // The test for refusal 5.
+#[tactic(auto, unfolding(records::specs::Sound::sound))]
 pub fn is_sound(slots: usize, dev: Dev, phases: &[u64], cells: &[u32]) -> bool
     requires { length (statuses_in phases.now) ≡ slots }
     ensures { (setup : Setup) (live : List ℕ) → setup.slots ≡ slots → result ≡ sound setup (state dev (statuses_in phases.now) live cells.now) }
 {
-    let queue = dev.queue;
-    let control = dev.control;
-    let start = queue.start;
-    let depth = queue.depth;
-    if times::CLOCK_END < times::nanos_number(dev.clock) {
-        return false;
-    }
-    if cells.len() <= start {
-        return false;
-    }
-    if cells.len() < depth {
-        return false;
-    }
-    sound_cells(depth, cells, start)
-        & (control.signalling <= 2)
-        & sound_statuses(slots, dev, phases)
-        & sound_owed(dev, slots, phases)
+    let start = dev.queue.start;
+    let depth = dev.queue.depth;
+    times::nanos_number(dev.clock) <= times::CLOCK_END
+        && start < cells.len()
+        && depth <= cells.len()
+        && sound_cells(depth, cells, start)
+        && dev.control.signalling <= 2
+        && sound_statuses(slots, dev, phases)
+        && sound_owed(dev, slots, phases)
 }

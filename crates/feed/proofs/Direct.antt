@@ -1,4 +1,5 @@
 -- Records that take their turn apart: those that touch one slot, and an advance before any slot becomes Ready; and moments before which none does.
+use Rattle.std.specs.Prelude.{Option, None}
 use Prim.Native.Nat.{ℕ, ◌<◌}
 use native.Mathlib.Omega.{arith}
 use mathlib.Core.Path.{◌≡◌, refl, sym, ap, ◌∙◌, subst}
@@ -14,8 +15,6 @@ use Rattle.readiness.specs.declared.Cause.{Cause}
 use Rattle.readiness.specs.declared.Phase.{Phase}
 use Rattle.readiness.specs.declared.Phase.TheVariants.{Down, Pending, Ready}
 use Rattle.readiness.specs.declared.Status.{Status}
-use Rattle.readiness.specs.declared.Moment.{Moment}
-use Rattle.readiness.specs.declared.Moment.TheVariants.{Never}
 use Rattle.readiness.specs.declared.Slot.{Slot}
 use Rattle.readiness.specs.declared.Setup.{Setup}
 use Rattle.readiness.specs.declared.Dev.{Dev}
@@ -28,6 +27,7 @@ use Rattle.readiness.proofs.PhaseNumbers.{notes_one}
 use Rattle.readiness.proofs.Bounds.{bound_quiet, bound_set, bound_least}
 use Rattle.records.specs.declared.Record.{Record}
 use Rattle.frs_queue.specs.declared.Queue.{Queue}
+use Rattle.std.specs.Prelude.{Some}
 use Rattle.messages.specs.declared.Message.TheVariants.{Frs}
 use Rattle.records.specs.declared.Record.TheVariants.{Advance, Message}
 use Rattle.records.specs.declared.Reply.{Reply}
@@ -44,7 +44,7 @@ use Rattle.records.proofs.Parted.{run-card}
 use Rattle.records.proofs.Readying.{readied_slot}
 use Rattle.records.specs.Sound.{Sound, Fitting}
 use Rattle.feed.specs.inner.Turns.{Turned}
-use Rattle.feed.proofs.Parts.{Runs, slot_runs, port_runs}
+use Rattle.feed.proofs.Parts.{slot_runs, port_runs}
 
 -- ---- moments before which no slot becomes Ready
 -- the first moment is one
@@ -76,8 +76,8 @@ owed_rests true true true e = sym e
 owed_rests true false true e = sym e
 
 -- ---- a slot of the card
-pub at_slot : (setup : Setup) (slots i : ℕ) → setup.slots ≡ slots → i < slots → part_at setup i ≡ OneSlot i
-at_slot setup slots i e h = ap (λ (b : Bool). cond b (OneSlot i) PortAlone) (lt-ltb i setup.slots (subst (λ (n : ℕ). i < n) (sym e) h))
+pub at_slot : (setup : Setup) (i : ℕ) → i < setup.slots → part_at setup i ≡ OneSlot i
+at_slot setup i h = ap (λ (b : Bool). cond b (OneSlot i) PortAlone) (lt-ltb i setup.slots h)
 
 -- the moment of a slot that a record makes Ready
 notes-effect : (i : ℕ) (e : Effect Seat) (m : List ℕ) → notes (slot_readied i e) m ≡ notes_at (made_by (slot_readied i e)) i m
@@ -89,44 +89,37 @@ module _ (k : Setup) (defaults : List ℕ) (dev : Dev) (statuses : List Status) 
   abbrev present : State
   present = state dev statuses live cells
 
-  -- what code leaves, and its answer in the slice for answers
-  pub turned_of : (t : State) (a : Reply) → Runs k defaults dev statuses live cells r t a
-      → (answers : List ℕ) (at : ℕ) (after : List ℕ) → after ≡ paste answers at (answer_bytes a) 8
-      → Turned k defaults present r answers at t after
-  turned_of t a x answers at after e = record { state = x.after; answer = e ∙ ap (λ (b : Reply). paste answers at (answer_bytes b) 8) x.reply }
-
-  -- a record of one slot, with the slots, the bus number and the entry that code is told, and the entry's kind
-  pub as_told : (slots bus : ℕ) (entry : Slot) (kind : Kind) → k.slots ≡ slots → k.bus ≡ bus → (i : ℕ) → entry_of k i ≡ entry → kind ≡ kind_of_entry entry → (z : Seat)
-      → slot_run k.slots (slot_kind k i) k.bus (entry_of k i) defaults i r z ≡ slot_run slots kind bus entry defaults i r z
-  as_told slots bus entry kind e b i n c z =
-      (λ j. slot_run (e j) (kind_of_entry (n j)) (b j) (n j) defaults i r z) ∙ ap (λ (x : Kind). slot_run slots x bus entry defaults i r z) (sym c)
+  -- a record of one slot, with the kind that code is told
+  pub as_told : (i : ℕ) (kind : Kind) → kind ≡ slot_kind k i → (z : Seat)
+      → slot_run k.slots (slot_kind k i) k.bus (entry_of k i) defaults i r z ≡ slot_run k.slots kind k.bus (entry_of k i) defaults i r z
+  as_told i kind c z = ap (λ (x : Kind). slot_run k.slots x k.bus (entry_of k i) defaults i r z) (sym c)
 
   module _ (sound : Sound k present) (fits : Fitting k defaults present) where
     -- a record that touches one slot, and leaves its status and the root port
     pub still_runs : (i : ℕ) → part_of k r ≡ OneSlot i → (a : Reply) (live' : List ℕ)
         → ◌≡◌ {A = Ran Seat} (slot_run k.slots (slot_kind k i) k.bus (entry_of k i) defaults i r (seat dev (status_at statuses i) live cells))
         (record { after = seat dev (status_at statuses i) live' cells; reply = a })
-        → Runs k defaults dev statuses live cells r (state dev statuses live' cells) a
+        → Turned k defaults present r (state dev statuses live' cells) a
     still_runs i o a live' y =
-        subst (λ (l : List Status). Runs k defaults dev statuses live cells r (state dev l live' cells) a) (set-get_or statuses i ready)
-        (slot_runs k defaults dev statuses live cells r sound fits i o (record { dev = dev; status = status_at statuses i; reply = a; made = Never }) live' cells (sym y))
+        subst (λ (l : List Status). Turned k defaults present r (state dev l live' cells) a) (set-get_or statuses i ready)
+        (slot_runs k defaults dev statuses live cells r sound fits i o (record { dev = dev; status = status_at statuses i; reply = a; made = None }) live' cells (sym y))
 
     -- the moment that it notes
-    pub slot_notes : (i : ℕ) → part_of k r ≡ OneSlot i → (slots : ℕ) (entry : Slot) (kind : Kind) → k.slots ≡ slots → entry_of k i ≡ entry → kind ≡ kind_of_entry entry
-        → (status : Status) → status ≡ status_at statuses i → (made : Moment) → made ≡ made_by (slot_readied i (slot_effect slots kind entry defaults r (seat dev status live cells)))
+    pub slot_notes : (i : ℕ) → part_of k r ≡ OneSlot i → (kind : Kind) → kind ≡ slot_kind k i
+        → (status : Status) → status ≡ status_at statuses i → (made : Option Nanos) → made ≡ made_by (slot_readied i (slot_effect k.slots kind (entry_of k i) defaults r (seat dev status live cells)))
         → (m : List ℕ) → notes_at made i m ≡ notes (readied k defaults present r) m
-    slot_notes i o slots entry kind e n c status q made w m =
-        let told = slot_effect slots kind entry defaults r (seat dev status live cells) in
+    slot_notes i o kind c status q made w m =
+        let told = slot_effect k.slots kind (entry_of k i) defaults r (seat dev status live cells) in
         let part = slot_effect k.slots (slot_kind k i) (entry_of k i) defaults r (seat dev (status_at statuses i) live cells) in
-        let p : told ≡ part = (λ j. slot_effect (sym e j) ((c ∙ ap kind_of_entry (sym n)) j) (sym n j) defaults r (seat dev (q j) live cells)) in
-        ap (λ (x : Moment). notes_at x i m) (w ∙ ap (λ (y : Effect Seat). made_by (slot_readied i y)) p)
+        let p : told ≡ part = (λ j. slot_effect k.slots (c j) (entry_of k i) defaults r (seat dev (q j) live cells)) in
+        ap (λ (x : Option Nanos). notes_at x i m) (w ∙ ap (λ (y : Effect Seat). made_by (slot_readied i y)) p)
         ∙ sym (notes-effect i part m)
         ∙ ap (λ (es : List Event). notes es m) (sym (readied_slot k defaults present sound fits r i o))
 
     -- an FRS that arrives by a message
-    pub frs-runs : (id reason : ℕ) → r ≡ Message (Frs id reason) → (q : Queue) (a : Reply) (cells' : List ℕ)
-        → ◌≡◌ {A = Ran Front} (port_run k.port_id (Message (Frs id reason)) (front dev cells)) (record { after = front (with_queue dev q) cells'; reply = a })
-        → Runs k defaults dev statuses live cells r (state (with_queue dev q) statuses live cells') a
+    pub frs-runs : (id reason : ℕ) → r ≡ Message (Some (Frs id reason)) → (q : Queue) (a : Reply) (cells' : List ℕ)
+        → ◌≡◌ {A = Ran Front} (port_run k.port_id (Message (Some (Frs id reason))) (front dev cells)) (record { after = front (with_queue dev q) cells'; reply = a })
+        → Turned k defaults present r (state (with_queue dev q) statuses live cells') a
     frs-runs id reason e q a cells' y =
         port_runs k defaults dev statuses live cells r sound fits (ap (part_of k) e) (record { dev = with_queue dev q; reply = a }) cells'
         (sym y ∙ ap (λ (z : Record). port_run k.port_id z (front dev cells)) (sym e))
@@ -135,9 +128,9 @@ module _ (k : Setup) (defaults : List ℕ) (dev : Dev) (statuses : List Status) 
     pub clock_runs : (bound : Nanos) → ReadyFrom bound statuses → (by : Nanos) → r ≡ Advance by → (sum_of dev.clock by).0 < bound.0 → (x : PortDone)
         → (due (sum_of dev.clock by) statuses ≡ [] → (dev.owed && all_ready k statuses) ≡ false
         → card_run k defaults (Advance by) present ≡ record { after = state x.dev statuses live cells; reply = x.reply })
-        → Runs k defaults dev statuses live cells r (state x.dev statuses live cells) x.reply
+        → Turned k defaults present r (state x.dev statuses live cells) x.reply
     clock_runs bound b by e h x c =
         let y = run-card k defaults present r (ap (part_of k) e)
         ∙ ap (λ (z : Record). card_run k defaults z present) e
         ∙ c (bound_quiet bound (sum_of dev.clock by) statuses b h) (owed_rests dev.owed dev.link (all_ready k statuses) (owed_test sound)) in
-        record { after = sym (ap (λ (z : Ran State). z.after) y); reply = sym (ap (λ (z : Ran State). z.reply) y) }
+        record { state = sym (ap (λ (z : Ran State). z.after) y); reply = sym (ap (λ (z : Ran State). z.reply) y) }

@@ -2,6 +2,7 @@ pub mod Lent
 pub mod Parts
 pub mod Noting
 pub mod Accepting
+pub mod Going
 pub mod Looping
 pub mod Counts
 pub mod Carried

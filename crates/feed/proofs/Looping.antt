@@ -5,7 +5,7 @@ use mathlib.Core.Bool.{true}
 use mathlib.Core.List.{List, ◌++◌}
 use native.Mathlib.Omega.{arith}
 use lib.ListN.{length, take, drop, length-append, length-drop}
-use lib.Seq.{length-take-le}
+use lib.Seq.{length-take-le, paste}
 use lib.Dec.{eqb}
 use Rattle.trace.specs.Format.{Bytes, pad, longest, begun, next}
 use Rattle.trace.specs.inner.Gathered.{whole_size, end_number, end_count}
@@ -15,6 +15,7 @@ use Rattle.readiness.specs.declared.Status.{Status}
 use Rattle.readiness.specs.declared.Setup.{Setup}
 use Rattle.readiness.specs.declared.Dev.{Dev}
 use Rattle.records.specs.declared.Record.{Record}
+use Rattle.records.specs.declared.Reply.{Reply}
 use Rattle.records.specs.State.{State, state}
 use Rattle.records.specs.Decode.{decode}
 use Rattle.records.specs.Answer.{answer_bytes}
@@ -98,10 +99,10 @@ module _ {k : Setup} {defaults : List ℕ} {carried : List ℕ} {len : ℕ} {inp
 
   -- A RECORD'S TURN
   pub turned : (size : ℕ) → Turning size → (r : Record) → r ≡ decode rest
-      → (dev' : Dev) (statuses' : List Status) (live' cells' answers' : List ℕ)
-      → TakesTurn k defaults present r answers w (state dev' statuses' live' cells') answers'
+      → (dev' : Dev) (statuses' : List Status) (live' cells' : List ℕ) (a : Reply) (answers' : List ℕ)
+      → TakesTurn k defaults present r (state dev' statuses' live' cells') a → answers' ≡ paste answers w (answer_bytes a) 8
       → Head k defaults carried len input room s₀ answers' dev' statuses' live' cells' (at + size) (w + 8)
-  turned size t r d dev' statuses' live' cells' answers' x =
+  turned size t r d dev' statuses' live' cells' a answers' x e =
       let y = x v.inv.good.kept.sound v.inv.good.kept.fits in
       let answer = answer_bytes (run k defaults present r).reply in
       let z = decode_alone rest size (got_size rest size t.got) t.some (got_count rest size t.got).there in
@@ -109,7 +110,7 @@ module _ {k : Setup} {defaults : List ℕ} {carried : List ℕ} {len : ℕ} {inp
         slots = v.slots;
         short = v.short;
         long = v.long;
-        inv = rw y.answer
+        inv = rw (e ∙ ap (λ (b : Reply). paste answers w (answer_bytes b) 8) y.reply)
             (turns (bench k defaults) (Good k defaults s₀) (good_keeps k defaults s₀) s₀ (take len carried) input room answers present at w v.inv size t.got
             (record { state = state dev' statuses' live' cells'; answer = answer })
             (ran_bytes k defaults present (state dev' statuses' live' cells') answer r (pad longest (take size rest)) t.got.whole (d ∙ z) (ap (pad longest) (sym (got_bytes rest size t.got))) y.state refl)

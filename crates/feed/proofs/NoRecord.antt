@@ -1,5 +1,5 @@
 -- A call that runs no record, and what a call with a record can rely on.
-use Prim.Native.Nat.{ℕ, zero, suc, ◌+◌, ◌-◌, ◌≤◌, ◌<◌}
+use Prim.Native.Nat.{ℕ, ◌+◌, ◌-◌, ◌≤◌, ◌<◌}
 use native.Mathlib.Omega.{arith}
 use native.Mathlib.Nat.{sub-zero}
 use mathlib.Core.Path.{◌≡◌, refl, sym, ap, ◌∙◌}
@@ -18,9 +18,9 @@ use Rattle.readiness.specs.declared.Setup.{Setup}
 use Rattle.records.specs.declared.Port.{Port}
 use Rattle.demand3.specs.Held.{Held, held, opened, state_of, carried_of}
 use Rattle.demand3.specs.Feeding.{bench, feeds}
-use Rattle.feed.specs.declared.Opening.{Opening}
+use Rattle.std.specs.Prelude.{Err}
 use Rattle.feed.specs.declared.FedPort.{FedPort}
-use Rattle.feed.specs.inner.Calls.{NotRefused, Completes, carries_on, Opens, Rests}
+use Rattle.feed.specs.inner.Calls.{NotRefused, carries_on, Opens}
 use Rattle.feed.proofs.Accepting.{Accepted, accepted}
 use Rattle.feed.proofs.Looping.{starts, ends, ended}
 use Rattle.feed.proofs.Carried.{open_accepted}
@@ -50,7 +50,7 @@ module _ (setup : Setup) (defaults : List ℕ) (h : Held) (input room : List ℕ
   rest = carried_of h.port ++ input
 
   -- one that is not refused and completes no record
-  completes_none : Typed setup h input → refusal_or31 (bench setup defaults) h ≡ 0 → whole_size (length room) (next rest) ≡ 0 → leaves (carries_on h.port input) ≡ feeds setup defaults h input room
+  pub completes_none : Typed setup h input → refusal_or31 (bench setup defaults) h ≡ 0 → whole_size (length room) (next rest) ≡ 0 → leaves (carries_on h.port input) ≡ feeds setup defaults h input room
   completes_none t e q =
       let a = accepted setup defaults h e t.bus t.port_id in
       let p = h.port in
@@ -70,24 +70,13 @@ module _ (setup : Setup) (defaults : List ℕ) (h : Held) (input room : List ℕ
       })
       (ended v n m (ends v (ap (λ (r : ℕ). whole_size r (next rest)) (sub-zero (length room)) ∙ q)) h refl refl e)
 
-  -- A CALL THAT RUNS NO RECORD
-  pub runs_none : Typed setup h input → (o : Opening) → Opens setup defaults h input (length room) o → o.size ≡ 0 → (r : FedPort) → Rests o.number h.port input r
-      → leaves r ≡ feeds setup defaults h input room
-  runs_none t o p s r x = by o.number refl
-    where
-      by : (n : ℕ) → o.number ≡ n → leaves r ≡ feeds setup defaults h input room
-      by zero e = ap leaves (x.carries e) ∙ completes_none t (sym p.number ∙ e) (sym (p.first e) ∙ s)
-      by (suc n) e =
-          let f : o.number ≡ 0 → ⊥ = λ z. absurd (omega (arith, e, z)) in
-          ap leaves (x.refused f) ∙ feeds_no (bench setup defaults) h input room o.number p.number f
+  -- one that is refused
+  pub refused_feeds : (n : ℕ) → Opens setup defaults h input (length room) (Err n) → leaves (record { number = n; consumed = 0; written = 0; port = h.port }) ≡ feeds setup defaults h input room
+  refused_feeds n o = feeds_no (bench setup defaults) h input room n o.0 o.1
 
   -- one that isn't refused carries at most 16 bytes
-  pub carries_few : Typed setup h input → (o : Opening) → Opens setup defaults h input (length room) o → o.number ≡ 0 → h.port.carried_len ≤ 16
-  carries_few t o p z = (accepted setup defaults h (sym p.number ∙ z) t.bus t.port_id).short
-
-  -- A CALL THAT COMPLETES A RECORD is not refused
-  pub runs_some : (o : Opening) → Opens setup defaults h input (length room) o → 0 < o.size → NotRefused setup defaults h × Completes h.port input (length room) o.size
-  runs_some o p s = (sym p.number ∙ p.some s, (s, p.first (p.some s)))
+  pub carries_few : Typed setup h input → NotRefused setup defaults h → h.port.carried_len ≤ 16
+  carries_few t e = (accepted setup defaults h e t.bus t.port_id).short
 
   -- with nothing carried, a call is one on a port that says so
   module _ (e : refusal_or31 (bench setup defaults) h ≡ 0) (a : Accepted setup defaults h) (none : h.port.carried_len ≡ 0) where

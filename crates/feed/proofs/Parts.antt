@@ -23,6 +23,7 @@ use Rattle.records.specs.Sound.{Sound, Fitting}
 use Rattle.records.specs.inner.Parts.{part_of, slot_run, slot_ran, slot_put, port_run, port_ran, port_put, card_run, card_ran}
 use Rattle.records.proofs.Parted.{run_slot, run_port, run-card}
 use Rattle.records.specs.Device.{in_bytes, device}
+use Rattle.feed.specs.inner.Turns.{Turned}
 
 -- ---- a record by its bytes
 -- the state after a record, and its answer's bytes, are what the device makes of the record's bytes
@@ -38,30 +39,25 @@ module _ (k : Setup) (defaults : List ℕ) (dev : Dev) (statuses : List Status) 
   abbrev present : State
   present = state dev statuses live cells
 
-  -- what code leaves: a state and a reply
-  pub record Runs (t : State) (a : Reply) : Type 0 where
-    pub after : t ≡ (run k defaults present r).after
-    pub reply : a ≡ (run k defaults present r).reply
-
-  runs_of : (t : State) (a : Reply) → ◌≡◌ {A = Ran State} (record { after = t; reply = a }) (run k defaults present r) → Runs t a
-  runs_of t a e = record { after = ap (λ (x : Ran State). x.after) e; reply = ap (λ (x : Ran State). x.reply) e }
+  turned_of : (t : State) (a : Reply) → ◌≡◌ {A = Ran State} (record { after = t; reply = a }) (run k defaults present r) → Turned k defaults present r t a
+  turned_of t a e = record { state = ap (λ (x : Ran State). x.after) e; reply = ap (λ (x : Ran State). x.reply) e }
 
   -- the whole card
   pub card-runs : part_of k r ≡ WholeCard → (x : PortDone) (statuses' : List Status) (live' cells' : List ℕ)
       → card_ran x statuses' live' cells' ≡ card_run k defaults r present
-      → Runs (state x.dev statuses' live' cells') x.reply
-  card-runs q x statuses' live' cells' e = runs_of _ _ (e ∙ sym (run-card k defaults present r q))
+      → Turned k defaults present r (state x.dev statuses' live' cells') x.reply
+  card-runs q x statuses' live' cells' e = turned_of _ _ (e ∙ sym (run-card k defaults present r q))
 
   module _ (sound : Sound k present) (fits : Fitting k defaults present) where
     -- the port alone
     pub port_runs : part_of k r ≡ PortAlone → (x : PortDone) (cells' : List ℕ) → port_ran x cells' ≡ port_run k.port_id r (front dev cells)
-        → Runs (state x.dev statuses live cells') x.reply
+        → Turned k defaults present r (state x.dev statuses live cells') x.reply
     port_runs q x cells' e =
-        runs_of _ _ (ap (port_put present) e ∙ sym (run_port k defaults present sound fits r q))
+        turned_of _ _ (ap (port_put present) e ∙ sym (run_port k defaults present sound fits r q))
 
     -- one slot
     pub slot_runs : (i : ℕ) → part_of k r ≡ OneSlot i → (x : SlotDone) (live' cells' : List ℕ)
         → slot_ran x live' cells' ≡ slot_run k.slots (slot_kind k i) k.bus (entry_of k i) defaults i r (seat dev (status_at statuses i) live cells)
-        → Runs (state x.dev (set statuses i x.status) live' cells') x.reply
+        → Turned k defaults present r (state x.dev (set statuses i x.status) live' cells') x.reply
     slot_runs i q x live' cells' e =
-        runs_of _ _ (ap (slot_put present i) e ∙ sym (run_slot k defaults present sound fits r i q))
+        turned_of _ _ (ap (slot_put present i) e ∙ sym (run_slot k defaults present sound fits r i q))

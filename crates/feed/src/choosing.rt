@@ -9,7 +9,7 @@ ghost use Rattle.feed.specs.inner.Turns.{Takes};
 use crate::Turn;
 use frs_queue::Frs;
 use messages::Message;
-use readiness::{Phase, Status};
+use readiness::{Dev, Phase, Status};
 use records::{Record, Request};
 use times::Nanos;
 
@@ -50,7 +50,7 @@ fn of_hardware(slots: usize, slot: usize, word: usize, mask: u32) -> Turn
 fn of_advance(earliest: Nanos, clock: Nanos, by: Nanos) -> Turn
     ensures { (slots : ℕ) (link : Bool) → Takes slots earliest clock link (variants.Advance by) result }
 {
-    if times::earlier(times::sum(clock, by), earliest) {
+    if times::sum(clock, by) < earliest {
         Turn::Clock(by)
     } else {
         Turn::Card
@@ -58,43 +58,26 @@ fn of_advance(earliest: Nanos, clock: Nanos, by: Nanos) -> Turn
 }
 
 // An FRS that comes with the link up goes to the queue alone.
-fn of_message(link: bool, message: Message) -> Turn
+fn of_message(link: bool, message: Option<Message>) -> Turn
     ensures { (slots : ℕ) (earliest clock : Nanos) → Takes slots earliest clock link (variants.Message message) result }
 {
     match message {
-        Message::Frs(id, reason) => {
-            if link {
-                Turn::Frs(Frs {
-                    id: id,
-                    reason: reason,
-                })
-            } else {
-                Turn::Port
-            }
-        }
-        Message::Drs(_) => Turn::Port,
-        Message::NotReadiness => Turn::Port,
+        Some(Message::Frs(id, reason)) if link => Turn::Frs(Frs { id, reason }),
+        _ => Turn::Port,
     }
 }
 
-pub fn turn_of(slots: usize, earliest: Nanos, clock: Nanos, link: bool, record: Record) -> Turn
-    ensures { Takes slots earliest clock link «record» result }
+pub fn turn_of(slots: usize, earliest: Nanos, dev: Dev, record: Record) -> Turn
+    ensures { Takes slots earliest dev.clock dev.link «record» result }
 {
     match record {
-        Record::Advance(by) => of_advance(earliest, clock, by),
+        Record::Advance(by) => of_advance(earliest, dev.clock, by),
         Record::Read(q) => of_read(slots, q),
         Record::Write(q, value) => of_write(slots, q, value),
-        Record::Message(message) => of_message(link, message),
-        Record::LinkUp => Turn::Card,
-        Record::LinkDown => Turn::Card,
-        Record::ColdReset => Turn::Card,
-        Record::ReadQueue => Turn::Port,
-        Record::RemoveOldest => Turn::Port,
-        Record::ClearBits(_) => Turn::Port,
-        Record::Control(_) => Turn::Port,
         Record::HardwareSet(slot, word, mask) => of_hardware(slots, slot, word, mask),
-        Record::ReadBits => Turn::Port,
-        Record::NoKind => Turn::Port,
+        Record::Message(message) => of_message(dev.link, message),
+        Record::LinkUp | Record::LinkDown | Record::ColdReset => Turn::Card,
+        _ => Turn::Port,
     }
 }
 
@@ -102,10 +85,8 @@ pub fn turn_of(slots: usize, earliest: Nanos, clock: Nanos, link: bool, record: 
 pub fn lowered(earliest: Nanos, status: Status) -> Nanos
     ensures { (l : List Status) (i : ℕ) → ReadyFrom earliest l → ReadyFrom result (set l i status) }
 {
-    let phase = status.phase;
-    match phase {
-        Phase::Down => earliest,
-        Phase::Ready => earliest,
-        Phase::Pending(_, ready) => times::least(ready, earliest),
+    match status.phase {
+        Phase::Down | Phase::Ready => earliest,
+        Phase::Pending(_, ready) => ready.min(earliest),
     }
 }

@@ -1,36 +1,27 @@
 // The end of a call: the bytes that it carries on, and what calls one after the other come to.
-ghost use Rattle.std.specs.Prelude.{◌≡◌, ◌+◌, ◌-◌, ◌≤◌, ◌<◌};
+ghost use Rattle.std.specs.Prelude.{◌≡◌, ◌+◌, ◌≤◌, ◌<◌};
 ghost use Rattle.demand3.specs.Held.{opened};
-ghost use Rattle.feed.specs.inner.Calls.{carries_on, Rests};
+ghost use Rattle.feed.specs.inner.Calls.{carries_on};
 
 use crate::FedPort;
-use decode::gathering::{carried_bytes, ending};
+use decode::gathering::{ending, first_bytes};
 use readiness::Dev;
 use records::{Port, blank_port};
-
-// How far n goes past m.
-fn excess(n: usize, m: usize) -> usize
-    ensures { result ≡ n - m }
-{
-    if m <= n { n - m } else { 0 }
-}
 
 // THE END OF A CALL, which completes no record more: what is consumed of the input joins the carried bytes.
 pub fn carry_on(port: Port, input: &[u8]) -> FedPort
     requires { port.carried_len ≤ 16 }
     ensures { result ≡ carries_on port input.now }
 {
-    let dev = port.dev;
-    let carried = port.carried;
     let len = port.carried_len;
-    let end = ending(&carried, len, input);
+    let end = ending(&port.carried, len, input);
     FedPort {
         number: end.number,
-        consumed: excess(end.count, len),
+        consumed: end.count.saturating_sub(len),
         written: 0,
         port: Port {
-            dev: dev,
-            carried: carried_bytes(&carried, len, input, end.count),
+            dev: port.dev,
+            carried: first_bytes(&port.carried, len, input, end.count),
             carried_len: end.count,
             broken: end.number == 31,
         },
@@ -42,12 +33,10 @@ pub fn after_first(consumed: usize, written: usize, rest: FedPort) -> FedPort
     requires { (consumed + rest.consumed < 18446744073709551616) × (written + rest.written < 18446744073709551616) }
     ensures { result ≡ record { number = rest.number; consumed = consumed + rest.consumed; written = written + rest.written; port = rest.port } }
 {
-    let port = rest.port;
     FedPort {
-        number: rest.number,
         consumed: consumed + rest.consumed,
         written: written + rest.written,
-        port: port,
+        ..rest
     }
 }
 
@@ -55,23 +44,20 @@ pub fn after_first(consumed: usize, written: usize, rest: FedPort) -> FedPort
 pub fn nothing_carried(dev: Dev) -> Port
     ensures { result ≡ opened dev }
 {
-    let mut port = blank_port();
-    port.dev = dev;
-    port
+    Port {
+        dev,
+        ..blank_port()
+    }
 }
 
-// A call that runs no record: it is refused, or what is consumed of the input joins the carried bytes.
-pub fn rests(number: u8, port: Port, input: &[u8]) -> FedPort
-    requires { number ≡ 0 → port.carried_len ≤ 16 }
-    ensures { Rests number port input.now result }
+// A call that is refused: nothing changes.
+pub fn refused(number: u8, port: Port) -> FedPort
+    ensures { result ≡ record { number = number; consumed = 0; written = 0; port = port } }
 {
-    if number == 0 {
-        return carry_on(port, input);
-    }
     FedPort {
-        number: number,
+        number,
         consumed: 0,
         written: 0,
-        port: port,
+        port,
     }
 }

@@ -1,4 +1,5 @@
 // Feed by value over the lent slices: each whole record of a call's trace runs in its turn.
+// Kept in this file: what is lent goes as slices beside set-up and device, and how they fit stands in clauses, since a struct of `&mut` slices needs a clause on its ghost name in each function.
 #![tactic(auto)]
 
 mod choosing; // how a record takes its turn
@@ -7,14 +8,13 @@ pub mod running; // the records of a call
 mod turning; // a record's turn, and its answer
 
 ghost use Rattle.std.specs.Prelude.{◌≡◌, List, ℕ, length};
-ghost use Rattle.registers.specs.Rows.{masks};
 ghost use Rattle.demand3.specs.Held.{held, lent_of};
 ghost use Rattle.demand3.specs.Feeding.{feeds};
 ghost use Rattle.set_up.specs.Lent.{held_in};
 ghost use Rattle.feed.specs.Left.{left, left_in_place};
 ghost use Rattle.feed.specs.inner.Calls.{Opens};
 
-use closing::rests;
+use closing::{carry_on, refused};
 use decode::gathering::whole_size;
 use frs_queue::Frs;
 use readiness::{Setup, Status};
@@ -26,6 +26,7 @@ use settle::phases::{in_numbers, in_statuses};
 use times::Nanos;
 
 // What feed gives, beside the lent slices.
+// Kept: the number is the papers', given with the counts in each case.
 #[derive(Clone, Copy)]
 pub struct Fed {
     pub number: u8,
@@ -36,19 +37,13 @@ pub struct Fed {
 }
 
 // What feed gives where the statuses are changed in place, beside the lent slices.
+// Kept: as in `Fed`.
 #[derive(Clone, Copy)]
 pub struct FedPort {
     pub number: u8,
     pub consumed: usize,
     pub written: usize,
     pub port: Port,
-}
-
-// How a call begins: the number for which it is refused, or 0; and the size of the first record that it completes, 0 if there is none.
-#[derive(Clone, Copy)]
-pub struct Opening {
-    pub number: u8,
-    pub size: usize,
 }
 
 // How a record takes its turn.
@@ -70,7 +65,7 @@ pub enum Turn {
     Card,
 }
 
-// How a call begins.
+// How a call begins: the number for which it is refused; else the size of the first record that it completes, if it completes one.
 fn opens(
     setup: Setup,
     port: Port,
@@ -80,22 +75,17 @@ fn opens(
     cells: &[u32],
     input: &[u8],
     room: usize,
-) -> Opening
+) -> Result<Option<usize>, u8>
     ensures { (live : List ℕ) → length live ≡ words
         → Opens setup defaults.now (held_in port phases.now live cells.now) input.now room result }
 {
     let no = refusal(setup, port, phases, words, defaults, cells);
     if no != 0 {
-        return Opening {
-            number: no,
-            size: 0,
-        };
+        return Err(no);
     }
-    let len = port.carried_len;
-    let carried = port.carried;
-    Opening {
-        number: 0,
-        size: whole_size(&carried, len, input, room),
+    match whole_size(&port.carried, port.carried_len, input, room) {
+        0 => Ok(None),
+        size => Ok(Some(size)),
     }
 }
 
@@ -111,11 +101,11 @@ pub fn feed_lent(
     input: &[u8],
     answers: &mut [u8],
 ) -> FedPort
-    requires { table.now ≡ masks }
     ensures { left_in_place result phases.new live.new cells.new answers.new
         ≡ feeds setup defaults.now (held_in port phases.old live.old cells.old) input.now answers.old }
 {
-    let o = opens(
+    let room = answers.len();
+    match opens(
         setup,
         port,
         phases,
@@ -123,14 +113,14 @@ pub fn feed_lent(
         defaults,
         cells,
         input,
-        answers.len(),
-    );
-    if o.size == 0 {
-        return rests(o.number, port, input);
+        room,
+    ) {
+        Ok(Some(size)) => run_records(
+            table, setup, port, size, phases, live, defaults, cells, input, answers,
+        ),
+        Ok(None) => carry_on(port, input),
+        Err(number) => refused(number, port),
     }
-    run_records(
-        table, setup, port, o.size, phases, live, defaults, cells, input, answers,
-    )
 }
 
 // The same with a copy of the table of its own, which is made only if a record runs.
@@ -147,7 +137,8 @@ pub fn feed_in_place(
     ensures { left_in_place result phases.new live.new cells.new answers.new
         ≡ feeds setup defaults.now (held_in port phases.old live.old cells.old) input.now answers.old }
 {
-    let o = opens(
+    let room = answers.len();
+    match opens(
         setup,
         port,
         phases,
@@ -155,15 +146,17 @@ pub fn feed_in_place(
         defaults,
         cells,
         input,
-        answers.len(),
-    );
-    if o.size == 0 {
-        return rests(o.number, port, input);
+        room,
+    ) {
+        Ok(Some(size)) => {
+            let table = registers::attributes();
+            run_records(
+                &table, setup, port, size, phases, live, defaults, cells, input, answers,
+            )
+        }
+        Ok(None) => carry_on(port, input),
+        Err(number) => refused(number, port),
     }
-    let table = registers::attributes();
-    run_records(
-        &table, setup, port, o.size, phases, live, defaults, cells, input, answers,
-    )
 }
 
 // Feed: a refusal changes nothing.
@@ -186,8 +179,8 @@ pub fn feed(
             number: 1,
             consumed: 0,
             written: 0,
-            port: port,
-            statuses: statuses,
+            port,
+            statuses,
         };
     }
     let mut phases = in_numbers(statuses);
@@ -202,12 +195,11 @@ pub fn feed(
         input,
         answers,
     );
-    let after = fed.port;
     Fed {
         number: fed.number,
         consumed: fed.consumed,
         written: fed.written,
-        port: after,
+        port: fed.port,
         statuses: in_statuses(phases),
     }
 }

@@ -1,6 +1,6 @@
 // The records of a call that is not refused, each in its turn.
+// Kept in this file: what is lent goes as slices beside set-up and device, and how they fit stands in clauses, since a struct of `&mut` slices needs a clause on its ghost name in each function.
 ghost use Rattle.std.specs.Prelude.{◌≡◌, length};
-ghost use Rattle.registers.specs.Rows.{masks};
 ghost use Rattle.readiness.specs.inner.Phases.{moments_in};
 ghost use Rattle.execute.specs.inner.Lent.{state_in};
 ghost use Rattle.demand3.specs.Held.{opened};
@@ -15,7 +15,8 @@ use crate::turning::{
     card_turn, clock_turn, frs_turn, hardware_turn, port_turn, read_turn, write_turn,
 };
 use crate::{FedPort, Turn};
-use decode::gathering::{first_bytes, next_record};
+use decode::gathering::{first_bytes, next_record, put_answer};
+use execute::answering::answer_bytes;
 use readiness::{Dev, Setup};
 use records::Port;
 use registers::Masks;
@@ -33,7 +34,6 @@ pub fn run_input(
     input: &[u8],
     answers: &mut [u8],
 ) -> FedPort
-    requires table_value { table.now ≡ masks }
     requires not_refused { NotRefused setup defaults.now (held_in (opened start) phases.old live.old cells.old) }
     ensures answers_after { left_in_place result phases.new live.new cells.new answers.new
         ≡ feeds setup defaults.now (held_in (opened start) phases.old live.old cells.old) input.now answers.old }
@@ -42,74 +42,59 @@ pub fn run_input(
 {
     let mut dev = start;
     let mut earliest = times::nanos_of(0);
-    let mut at: usize = 0;
-    let mut w: usize = 0;
-    loop {
-        let found = next_record(input, at, answers.len() - w);
-        if found.size == 0 {
-            return after_first(at, w, carry_on(nothing_carried(dev), &input[at..]));
-        }
-        let record = found.record;
-        let turn = turn_of(setup.slots, earliest, dev.clock, dev.link, record);
-        let next = at + found.size;
-        let more = w + 8;
-        match turn {
-            Turn::Read(q) => {
-                let slot = q.slot;
-                let entry = setup.entries[slot];
-                read_turn(setup.slots, entry, dev, phases, live, q, answers, w);
-            }
+    let mut at = 0;
+    let mut w = 0;
+    // Kept: how many records the input has is known only once they are read.
+    while let Some(found) = next_record(input, at, answers.len() - w) {
+        let reply = match turn_of(setup.slots, earliest, dev, found.record) {
+            Turn::Read(q) => read_turn(&setup, dev, phases, live, q),
             Turn::Write(q, value) => {
-                let slot = q.slot;
-                let entry = setup.entries[slot];
-                let x = write_turn(
+                let moved = write_turn(
+                    table, &setup, dev, earliest, phases, live, defaults, cells, q, value,
+                );
+                dev = moved.dev;
+                earliest = moved.earliest;
+                moved.reply
+            }
+            Turn::Hardware(slot, word, mask) => {
+                hardware_turn(table, &setup, phases, live, slot, word, mask)
+            }
+            Turn::Port => {
+                let done = port_turn(setup.port_id, dev, found.record, cells);
+                dev = done.dev;
+                done.reply
+            }
+            Turn::Frs(frs) => {
+                let done = frs_turn(dev, cells, frs);
+                dev = done.dev;
+                done.reply
+            }
+            Turn::Clock(by) => {
+                let done = clock_turn(dev, by);
+                dev = done.dev;
+                done.reply
+            }
+            Turn::Card => {
+                let moved = card_turn(
                     table,
-                    setup.slots,
-                    setup.bus,
-                    entry,
+                    &setup,
                     dev,
-                    earliest,
                     phases,
+                    found.record,
                     live,
                     defaults,
                     cells,
-                    q,
-                    value,
-                    answers,
-                    w,
                 );
-                dev = x.dev;
-                earliest = x.earliest;
+                dev = moved.dev;
+                earliest = moved.earliest;
+                moved.reply
             }
-            Turn::Hardware(slot, word, mask) => {
-                let entry = setup.entries[slot];
-                hardware_turn(
-                    table,
-                    setup.slots,
-                    entry,
-                    phases,
-                    live,
-                    slot,
-                    word,
-                    mask,
-                    answers,
-                    w,
-                );
-            }
-            Turn::Port => dev = port_turn(setup.port_id, dev, record, cells, answers, w),
-            Turn::Frs(frs) => dev = frs_turn(dev, cells, frs, answers, w),
-            Turn::Clock(by) => dev = clock_turn(dev, by, answers, w),
-            Turn::Card => {
-                let x = card_turn(
-                    table, setup, dev, phases, record, live, defaults, cells, answers, w,
-                );
-                dev = x.dev;
-                earliest = x.earliest;
-            }
-        }
-        at = next;
-        w = more;
+        };
+        put_answer(answers, w, answer_bytes(reply));
+        at += found.size;
+        w += 8;
     }
+    after_first(at, w, carry_on(nothing_carried(dev), &input[at..]))
 }
 
 // A call that is not refused, with bytes carried that begin a record of `size` bytes, which is whole now: that record, and then the rest of the input.
@@ -125,7 +110,6 @@ fn run_joined(
     input: &[u8],
     answers: &mut [u8],
 ) -> FedPort
-    requires table_value { table.now ≡ masks }
     requires not_refused { NotRefused setup defaults.now (held_in port phases.old live.old cells.old) }
     requires completes { Completes port input.now (length answers.old) size }
     ensures { left_in_place result phases.new live.new cells.new answers.new
@@ -134,7 +118,7 @@ fn run_joined(
     let dev = port.dev;
     let carried = port.carried;
     let len = port.carried_len;
-    let bytes = first_bytes(&carried, len, input, size);
+    let bytes: [u8; 17] = first_bytes(&carried, len, input, size);
     let missing = size - len;
     let first = run_input(
         table,
@@ -183,7 +167,6 @@ pub fn run_records(
     input: &[u8],
     answers: &mut [u8],
 ) -> FedPort
-    requires table_value { table.now ≡ masks }
     requires not_refused { NotRefused setup defaults.now (held_in port phases.old live.old cells.old) }
     requires completes { Completes port input.now (length answers.old) size }
     ensures { left_in_place result phases.new live.new cells.new answers.new

@@ -1,7 +1,7 @@
 -- Where the k-th message of a ring lies.
 use mathlib.Core.Path.{◌≡◌, refl, sym, ap, ◌∙◌}
 use mathlib.Core.Bool.{Bool, true, false}
-use Prim.Native.Nat.{ℕ, suc, ◌+◌, ◌-◌, ◌%◌, ◌≤◌, ◌<◌}
+use Prim.Native.Nat.{ℕ, suc, ◌+◌, ◌-◌, ◌*◌, ◌%◌, ◌≤◌, ◌<◌}
 use native.Mathlib.Nat.{mod-lt, mod-eq_of_lt, mod-eq-sub-mod, mod-add-mod}
 use native.Mathlib.Omega.{arith}
 use lib.Dec.{ltb}
@@ -49,3 +49,7 @@ place_differs n start j k l h e =
 pub place_moved : (n start k : ℕ) → place_of n (place_of n start 1) k ≡ place_of n start (suc k)
 unfolding place_of
 place_moved n start k = let e : start + 1 + k ≡ start + suc k = omega arith in mod-add-mod (start + 1) n k ∙ ap (λ (m : ℕ). m % n) e
+
+-- of a depth only the low 12 bits reach the word of the register
+pub low_bits : (depth cell : ℕ) → (depth % 4096 * 1048576 + cell) % 4294967296 ≡ (depth * 1048576 + cell) % 4294967296
+low_bits depth cell = omega arith

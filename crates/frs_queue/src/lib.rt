@@ -41,23 +41,17 @@ pub struct Arrival {
 fn counted(count: u8) -> u8
     ensures { result ≡ counted_of count 1 }
 {
-    if count < 255 { count + 1 } else { 255 }
+    count.saturating_add(1)
 }
 
 // Whether an interrupt is raised: it was before, or a bit goes from 0 to 1 with its interrupt enabled.
 fn raised(already: bool, enabled: bool, bit: bool) -> bool
     ensures { result ≡ rises already enabled bit }
 {
-    if already {
-        true
-    } else if enabled {
-        !bit
-    } else {
-        false
-    }
+    already || enabled && !bit
 }
 
-// A cell's number modulo n; no division where it is one of the n.
+// A cell's number modulo n; no division where it is one of the n, as it is in every queue that was not read from outside.
 fn in_ring(start: usize, n: usize) -> usize
     requires { 0 < n }
     ensures { result ≡ start % n }
@@ -80,7 +74,7 @@ pub fn place(start: usize, k: usize, n: usize) -> usize
 fn cell_value(frs: Frs) -> u32
     ensures { result ≡ cell_of frs }
 {
-    frs.reason as u32 * 65536 + frs.id as u32
+    u32::from(frs.reason) * 65536 + u32::from(frs.id)
 }
 
 // The tally with one message more queued, where Received is set and was `received`.
@@ -89,10 +83,8 @@ fn tally_queued(tally: Tally, enabled: bool, received: bool) -> Tally
 {
     Tally {
         received: raised(tally.received, enabled, received),
-        overflow: tally.overflow,
-        drs: tally.drs,
         queued: counted(tally.queued),
-        dropped: tally.dropped,
+        ..tally
     }
 }
 
@@ -101,15 +93,15 @@ fn tally_dropped(tally: Tally, enabled: bool, overflow: bool) -> Tally
     ensures { result ≡ tally_dropped enabled overflow tally }
 {
     Tally {
-        received: tally.received,
         overflow: raised(tally.overflow, enabled, overflow),
-        drs: tally.drs,
-        queued: tally.queued,
         dropped: counted(tally.dropped),
+        ..tally
     }
 }
 
+// Kept: queue, tally and cells stand in three places of the bench, so that a struct of them would be made for this one call.
 // An FRS arrives, with the FRS interrupt enabled or not: it is put at the end of the queue, or dropped where the queue is full.
+#[tactic(auto, unfolding(crate::specs::Queue::arrives, crate::specs::Queue::queues, crate::specs::Queue::drops))]
 pub fn arrive(queue: Queue, tally: Tally, enabled: bool, cells: &mut [u32], frs: Frs) -> Arrival
     ensures { ring cells.exit.now result ≡ arrives enabled frs (record { cells = cells.entry.now; queue = queue; tally = tally }) }
 {
@@ -118,23 +110,19 @@ pub fn arrive(queue: Queue, tally: Tally, enabled: bool, cells: &mut [u32], frs:
     if depth < n {
         let at = place(queue.start, depth, n);
         cells[at] = cell_value(frs);
-        let more = depth + 1;
         Arrival {
             queue: Queue {
-                start: queue.start,
-                depth: more,
+                depth: depth + 1,
                 received: true,
-                overflow: queue.overflow,
+                ..queue
             },
             tally: tally_queued(tally, enabled, queue.received),
         }
     } else {
         Arrival {
             queue: Queue {
-                start: queue.start,
-                depth: depth,
-                received: queue.received,
                 overflow: true,
+                ..queue
             },
             tally: tally_dropped(tally, enabled, queue.overflow),
         }
@@ -142,46 +130,41 @@ pub fn arrive(queue: Queue, tally: Tally, enabled: bool, cells: &mut [u32], frs:
 }
 
 // The oldest message is removed from a ring of n cells: start moves one on. On an empty queue nothing changes.
+#[tactic(auto, unfolding(crate::specs::Queue::removed))]
 pub fn remove(queue: Queue, n: usize) -> Queue
     ensures { result ≡ removed n queue }
 {
-    if queue.depth == 0 {
+    if queue.depth == 0 || n == 0 {
         return queue;
     }
-    if n == 0 {
-        return queue;
+    Queue {
+        start: place(queue.start, 1, n),
+        depth: queue.depth - 1,
+        ..queue
     }
-    let mut after = queue;
-    let start = place(queue.start, 1, n);
-    let depth = queue.depth - 1;
-    after.start = start;
-    after.depth = depth;
-    after
 }
 
 // The queue emptied: depth 0, start at cell 0.
 pub fn empty(queue: Queue) -> Queue
     ensures { result ≡ emptied queue }
 {
-    let mut after = queue;
-    after.start = 0;
-    after.depth = 0;
-    after
+    Queue {
+        start: 0,
+        depth: 0,
+        ..queue
+    }
 }
 
 // The queue register: depth and the oldest cell, or 0.
+#[tactic(auto, unfolding(crate::specs::Queue::register_of), using(crate::proofs::Places::low_bits))]
 pub fn register(queue: Queue, cells: &[u32]) -> u32
     ensures { result ≡ register_of cells.now queue }
 {
     let n = cells.len();
-    let depth = queue.depth;
-    if depth == 0 {
-        return 0;
-    }
-    if n == 0 {
+    if queue.depth == 0 || n == 0 {
         return 0;
     }
     let oldest = place(queue.start, 0, n);
-    let shown = (depth % 4096) as u64 * 1048576 + cells[oldest] as u64;
+    let shown = (queue.depth % 4096) as u64 * 1048576 + u64::from(cells[oldest]);
     (shown % 4294967296) as u32
 }

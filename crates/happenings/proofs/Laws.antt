@@ -8,8 +8,9 @@ use mathlib.Core.Path.{◌≡◌, refl, sym, ap, ap₂, ◌∙◌}
 use lib.Dec.{ltb}
 use lib.ListN.{length, set}
 use Rattle.times.specs.declared.Nanos.{Nanos}
+use Rattle.std.specs.Prelude.{Option, Some, None}
 use Rattle.messages.specs.declared.Message.{Message}
-use Rattle.messages.specs.declared.Message.TheVariants.{Drs, Frs, NotReadiness}
+use Rattle.messages.specs.declared.Message.TheVariants.{Drs, Frs}
 use Rattle.frs_queue.specs.declared.Frs as queue_frs
 use Rattle.frs_queue.specs.Queue.{no_tally, queues, drops, arrives, arrive_all}
 use Rattle.readiness.specs.declared.Setup.{Setup}
@@ -99,11 +100,11 @@ module _ (setup : Setup) where
       frs_append (drs_told setup x.root.dev.clock x) (slots_happen setup (due x.root.dev.clock x.statuses) (tells setup x))
       ∙ ap₂ (λ (a b : List queue_frs.Frs). a ++ b) (frs-told x.root.dev.clock x) (frs_slots (due x.root.dev.clock x.statuses) (tells setup x))
 
-  frs_message : (s : State) (m : Message) → frs_in (by_message setup s m) ≡ of_message setup s m
+  frs_message : (s : State) (m : Option Message) → frs_in (by_message setup s m) ≡ of_message setup s m
   unfolding frs_in
-  frs_message s NotReadiness = refl
-  frs_message s (Drs id) = frs-drs false s.port.clock setup.port_id (root_of s no_tally)
-  frs_message s (Frs id reason) = frs_happen_lem s.port.clock (record { id = id; reason = reason } ∷ []) (root_of s no_tally)
+  frs_message s None = refl
+  frs_message s (Some (Drs id)) = frs-drs false s.port.clock setup.port_id (root_of s no_tally)
+  frs_message s (Some (Frs id reason)) = frs_happen_lem s.port.clock (record { id = id; reason = reason } ∷ []) (root_of s no_tally)
 
   frs_own : (s : State) (r : Record) → frs_in (by_record setup s r) ≡ of_record setup s r
   unfolding frs_in
@@ -182,11 +183,11 @@ module _ (setup : Setup) where
       ready_append (drs_told setup x.root.dev.clock x) (slots_happen setup (due x.root.dev.clock x.statuses) (tells setup x))
       ∙ ap₂ (λ (a b : List Event). a ++ b) (ready-told x.root.dev.clock x) (ready_slots (due x.root.dev.clock x.statuses) (tells setup x))
 
-  ready_message : (s : State) (m : Message) → ready_in (by_message setup s m) ≡ []
+  ready_message : (s : State) (m : Option Message) → ready_in (by_message setup s m) ≡ []
   unfolding ready_in
-  ready_message s NotReadiness = refl
-  ready_message s (Drs id) = ready-drs false s.port.clock setup.port_id (root_of s no_tally)
-  ready_message s (Frs id reason) = ready-frs s.port.clock (record { id = id; reason = reason } ∷ []) (root_of s no_tally)
+  ready_message s None = refl
+  ready_message s (Some (Drs id)) = ready-drs false s.port.clock setup.port_id (root_of s no_tally)
+  ready_message s (Some (Frs id reason)) = ready-frs s.port.clock (record { id = id; reason = reason } ∷ []) (root_of s no_tally)
 
   ready_own : (s : State) (r : Record) → ready_in (by_record setup s r) ≡ []
   unfolding ready_in

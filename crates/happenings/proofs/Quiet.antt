@@ -6,8 +6,9 @@ use mathlib.Core.Path.{◌≡◌, refl, sym, ap, ap₂, ◌∙◌}
 use lib.ListN.{set}
 use lib.Seq.{set-get_or}
 use Rattle.bits.proofs.Choices.{either_way}
+use Rattle.std.specs.Prelude.{Option, Some, None}
 use Rattle.messages.specs.declared.Message.{Message}
-use Rattle.messages.specs.declared.Message.TheVariants.{Drs, Frs, NotReadiness}
+use Rattle.messages.specs.declared.Message.TheVariants.{Drs, Frs}
 use Rattle.frs_queue.specs.declared.Tally.{Tally}
 use Rattle.frs_queue.specs.Queue.{no_tally}
 use Rattle.registers.specs.declared.Kind.{Kind}
@@ -100,19 +101,19 @@ module _ (setup : Setup) (defaults : List ℕ) (s : State) (sound : Sound setup 
       ∙ ap (λ (own : List Happening). own_in own (effect setup defaults s r)) o
       ∙ no_own (effect setup defaults s r)
 
-  message_own : (m : Message) → own_in (by_message setup s m) (effect setup defaults s (kind.Message m)) ≡ cond s.port.link (by_message setup s m) []
+  message_own : (m : Option Message) → own_in (by_message setup s m) (effect setup defaults s (kind.Message m)) ≡ cond s.port.link (by_message setup s m) []
   unfolding effect message_effect message_done
   message_own m = by s.port.link m
     where
-      by : (b : Bool) (m : Message)
+      by : (b : Bool) (m : Option Message)
           → own_in (by_message setup s m) (at_port s (cond b (message_done setup.port_id m (front_of s)) (refused completion.WrongState 0))) ≡ cond b (by_message setup s m) []
-      by true NotReadiness = refl
-      by true (Drs id) = refl
-      by true (Frs id reason) = refl
+      by true None = refl
+      by true (Some (Drs id)) = refl
+      by true (Some (Frs id reason)) = refl
       by false m = refl
 
   -- what arrives, with the link up
-  pub message_happens : (m : Message) → happenings setup defaults s (kind.Message m) ≡ cond s.port.link (by_message setup s m) []
+  pub message_happens : (m : Option Message) → happenings setup defaults s (kind.Message m) ≡ cond s.port.link (by_message setup s m) []
   unfolding happenings
   message_happens m =
       own_alone (kind.Message m) (by_message setup s m) (effect setup defaults s (kind.Message m)) (every Rests setup defaults s each_rests (kind.Message m)) refl

@@ -1,8 +1,8 @@
 -- WHAT HAPPENS IN A RECORD, one thing after the other, each at its own moment (01, "Readiness" and "Queue"). It is told of the rules by which slots settle; nothing here changes a state.
-use Rattle.std.specs.Prelude.{ℕ, Bool, true, false, cond, List, [], ◌∷◌, ◌++◌, ltb, length}
+use Rattle.std.specs.Prelude.{ℕ, Bool, true, false, cond, List, [], ◌∷◌, ◌++◌, ltb, length, Option, Some, None}
 use Rattle.times.specs.declared.Nanos.{Nanos}
 use Rattle.messages.specs.declared.Message.{Message}
-use Rattle.messages.specs.declared.Message.TheVariants.{Drs, Frs, NotReadiness}
+use Rattle.messages.specs.declared.Message.TheVariants.{Drs, Frs}
 use Rattle.frs_queue.specs.declared.Frs as queue_frs
 use Rattle.frs_queue.specs.Queue.{no_tally}
 use Rattle.readiness.specs.declared.Cause.{Cause}
@@ -67,10 +67,10 @@ unfoldable pub settling : Setup → Scene → List Happening
 settling setup x = drs_told setup x.root.dev.clock x ++ slots_happen setup (due x.root.dev.clock x.statuses) (tells setup x)
 
 -- an FRS or a DRS that comes as a message
-abbrev pub by_message : Setup → State → Message → List Happening
-by_message setup s NotReadiness = []
-by_message setup s (Drs id) = drs_happens false s.port.clock setup.port_id (root_of s no_tally)
-by_message setup s (Frs id reason) = frs_happen s.port.clock (record { id = id; reason = reason } ∷ []) (root_of s no_tally)
+abbrev pub by_message : Setup → State → Option Message → List Happening
+by_message setup s None = []
+by_message setup s (Some (Drs id)) = drs_happens false s.port.clock setup.port_id (root_of s no_tally)
+by_message setup s (Some (Frs id reason)) = frs_happen s.port.clock (record { id = id; reason = reason } ∷ []) (root_of s no_tally)
 
 abbrev pub by_record : Setup → State → Record → List Happening
 by_record setup s (Advance by) = []

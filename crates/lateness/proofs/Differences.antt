@@ -1,4 +1,5 @@
 -- The difference of a slot: what is claimed of it.
+use Rattle.std.specs.Prelude.{Option, None, Some}
 use mathlib.Core.Path.{◌≡◌, refl, sym, ap, ◌∙◌}
 use mathlib.Core.Bool.{Bool, true, false, cond}
 use mathlib.Core.Logic.{◌⊎◌, inl, inr, ⊎_elim, ◌↔◌}
@@ -13,10 +14,7 @@ use Rattle.bits.proofs.Choices.{when_true, when_false}
 use Rattle.bits.proofs.Numbers.{by_le}
 use Rattle.times.specs.declared.Nanos.{Nanos}
 use Rattle.times.specs.Moments.{clock_end}
-use Rattle.readiness.specs.declared.Moment.{Moment}
-use Rattle.readiness.specs.declared.Moment.TheVariants.{Never, At}
 use Rattle.readiness.specs.declared.Moments.{Moments}
-use Rattle.readiness.specs.MadeReady.{moments_of}
 use Rattle.lateness.specs.declared.Lateness.{Lateness}
 use Rattle.lateness.specs.declared.Lateness.TheVariants.{NoDifference, Of, Outside}
 use Rattle.lateness.specs.Lateness.{bench_time, minus, greatest_difference, within, apart, lateness_of, lateness_value}
@@ -26,26 +24,26 @@ use Rattle.lateness.proofs.Order.{no_way}
 
 -- ---- the bench time
 
-abbrev kept : Moments → ℕ → Moment
-kept m slot = get_or (moments_of m) slot Never
+abbrev kept : Moments → ℕ → Option Nanos
+kept m slot = get_or m.by_slot slot None
 
-pub past_count_lem : (slots : ℕ) (m : Moments) (slot : ℕ) → slots ≤ slot → bench_time slots m slot ≡ Never
+pub past_count_lem : (slots : ℕ) (m : Moments) (slot : ℕ) → slots ≤ slot → bench_time slots m slot ≡ None
 unfolding bench_time
-past_count_lem slots m slot h = when_true (leb slots slot) Never (cond (leb 32 slot) Never (kept m slot)) (le-leb slots slot h)
+past_count_lem slots m slot h = when_true (leb slots slot) None (cond (leb 32 slot) None (kept m slot)) (le-leb slots slot h)
 
-pub past_32 : (slots : ℕ) (m : Moments) (slot : ℕ) → 32 ≤ slot → bench_time slots m slot ≡ Never
+pub past_32 : (slots : ℕ) (m : Moments) (slot : ℕ) → 32 ≤ slot → bench_time slots m slot ≡ None
 unfolding bench_time
-past_32 slots m slot h = ap (λ (x : Moment). cond (leb slots slot) Never x) (when_true (leb 32 slot) Never (kept m slot) (le-leb 32 slot h)) ∙ by (leb slots slot)
+past_32 slots m slot h = ap (λ (x : Option Nanos). cond (leb slots slot) None x) (when_true (leb 32 slot) None (kept m slot) (le-leb 32 slot h)) ∙ by (leb slots slot)
   where
-    by : (b : Bool) → cond b Never Never ≡ Never
+    by : (b : Bool) → ◌≡◌ {A = Option Nanos} (cond b None None) None
     by true = refl
     by false = refl
 
 pub of_card : (slots : ℕ) (m : Moments) (slot : ℕ) → slot < slots → slot < 32 → bench_time slots m slot ≡ kept m slot
 unfolding bench_time
-of_card slots m slot h k = when_false (leb slots slot) Never (cond (leb 32 slot) Never (kept m slot)) (lt-leb slots slot h) ∙ when_false (leb 32 slot) Never (kept m slot) (lt-leb 32 slot k)
+of_card slots m slot h k = when_false (leb slots slot) None (cond (leb 32 slot) None (kept m slot)) (lt-leb slots slot h) ∙ when_false (leb 32 slot) None (kept m slot) (lt-leb 32 slot k)
 
-never : (seen : Moment) → lateness_of Never seen ≡ NoDifference
+never : (seen : Option Nanos) → lateness_of None seen ≡ NoDifference
 unfolding lateness_of
 never seen = refl
 
@@ -53,8 +51,8 @@ pub bench_times : BenchTimes
 bench_times =
     record {
       kept = of_card;
-      past_count = λ slots m slot seen h. ap (λ (x : Moment). lateness_of x seen) (past_count_lem slots m slot h) ∙ never seen;
-      past32 = λ slots m slot seen h. ap (λ (x : Moment). lateness_of x seen) (past_32 slots m slot h) ∙ never seen;
+      past_count = λ slots m slot seen h. ap (λ (x : Option Nanos). lateness_of x seen) (past_count_lem slots m slot h) ∙ never seen;
+      past32 = λ slots m slot seen h. ap (λ (x : Option Nanos). lateness_of x seen) (past_32 slots m slot h) ∙ never seen;
     }
 
 -- ---- the sign and the size of seen minus bench
@@ -78,18 +76,18 @@ adds s b = +ℤ_comm (pos b) (minus s b) ∙ -ℤ-+ℤ_cancel (pos s) (pos b)
 -- ---- near and far
 
 data Case (b s : Nanos) : Type 0 where
-  near : (FarApart b s → ⊥) → lateness_of (At b) (At s) ≡ Of (minus s.0 b.0) → Case b s
-  far : FarApart b s → lateness_of (At b) (At s) ≡ Outside → Case b s
+  near : (FarApart b s → ⊥) → lateness_of (Some b) (Some s) ≡ Of (minus s.0 b.0) → Case b s
+  far : FarApart b s → lateness_of (Some b) (Some s) ≡ Outside → Case b s
 
 module _ (b s : Nanos) where
   abbrev d : ℤ
   d = minus s.0 b.0
 
-  inside : nat_abs d ≤ greatest_difference → lateness_of (At b) (At s) ≡ Of d
+  inside : nat_abs d ≤ greatest_difference → lateness_of (Some b) (Some s) ≡ Of d
   unfolding lateness_of apart within
   inside h = when_true (within d) (Of d) Outside (le-leb (nat_abs d) greatest_difference h)
 
-  refused : greatest_difference < nat_abs d → lateness_of (At b) (At s) ≡ Outside
+  refused : greatest_difference < nat_abs d → lateness_of (Some b) (Some s) ≡ Outside
   unfolding lateness_of apart within
   refused h = when_false (within d) (Of d) Outside (lt-leb (nat_abs d) greatest_difference h)
 
@@ -114,35 +112,35 @@ which (Of d) = 1
 which Outside = 2
 
 module _ (b s : Nanos) where
-  some : lateness_of (At b) (At s) ≡ NoDifference → ⊥
+  some : lateness_of (Some b) (Some s) ≡ NoDifference → ⊥
   some e = by (case_of b s)
     where
       by : Case b s → ⊥
       by (near n q) = let z : ◌≡◌ {A = ℕ} 1 0 = ap which (sym q ∙ e) in omega arith
       by (far n q) = let z : ◌≡◌ {A = ℕ} 2 0 = ap which (sym q ∙ e) in omega arith
 
-  outside_far : lateness_of (At b) (At s) ≡ Outside → FarApart b s
+  outside_far : lateness_of (Some b) (Some s) ≡ Outside → FarApart b s
   outside_far e = by (case_of b s)
     where
       by : Case b s → FarApart b s
       by (near n q) = let z : ◌≡◌ {A = ℕ} 1 2 = ap which (sym q ∙ e) in absurd (omega arith)
       by (far n q) = n
 
-  far_outside : FarApart b s → lateness_of (At b) (At s) ≡ Outside
+  far_outside : FarApart b s → lateness_of (Some b) (Some s) ≡ Outside
   far_outside f = by (case_of b s)
     where
-      by : Case b s → lateness_of (At b) (At s) ≡ Outside
+      by : Case b s → lateness_of (Some b) (Some s) ≡ Outside
       by (near n q) = absurd (n f)
       by (far n q) = q
 
-  given : (FarApart b s → ⊥) → lateness_of (At b) (At s) ≡ Of (minus s.0 b.0)
+  given : (FarApart b s → ⊥) → lateness_of (Some b) (Some s) ≡ Of (minus s.0 b.0)
   given f = by (case_of b s)
     where
-      by : Case b s → lateness_of (At b) (At s) ≡ Of (minus s.0 b.0)
+      by : Case b s → lateness_of (Some b) (Some s) ≡ Of (minus s.0 b.0)
       by (near n q) = q
       by (far n q) = absurd (f n)
 
-  value_is : (v : ℤ) → lateness_of (At b) (At s) ≡ Of v → v ≡ minus s.0 b.0
+  value_is : (v : ℤ) → lateness_of (Some b) (Some s) ≡ Of v → v ≡ minus s.0 b.0
   unfolding lateness_value
   value_is v e = by (case_of b s)
     where
@@ -175,17 +173,17 @@ so_same s b h = late_is s b (omega arith) ∙ ap pos (omega arith)
 
 -- ---- one of the two times is missing
 
-abbrev is_never : Moment → ℕ
-is_never Never = 1
-is_never (At t) = 0
+abbrev is_never : Option Nanos → ℕ
+is_never None = 1
+is_never (Some t) = 0
 
-none_so : (bench seen : Moment) → (lateness_of bench seen ≡ NoDifference) ↔ ((bench ≡ Never) ⊎ (seen ≡ Never))
+none_so : (bench seen : Option Nanos) → (lateness_of bench seen ≡ NoDifference) ↔ ((bench ≡ None) ⊎ (seen ≡ None))
 unfolding lateness_of
-none_so Never seen = ((λ e. inl refl), (λ h. refl))
-none_so (At b) Never = ((λ e. inr refl), (λ h. refl))
-none_so (At b) (At s) = (
-  (λ (e : lateness_of (At b) (At s) ≡ NoDifference). absurd (some b s e)),
-  (λ (h : (At b ≡ Never) ⊎ (At s ≡ Never)). ⊎_elim (λ (k : At b ≡ Never). absurd (no_one (ap is_never k))) (λ (k : At s ≡ Never). absurd (no_one (ap is_never k))) h),
+none_so None seen = ((λ e. inl refl), (λ h. refl))
+none_so (Some b) None = ((λ e. inr refl), (λ h. refl))
+none_so (Some b) (Some s) = (
+  (λ (e : lateness_of (Some b) (Some s) ≡ NoDifference). absurd (some b s e)),
+  (λ (h : (Some b ≡ None) ⊎ (Some s ≡ None)). ⊎_elim (λ (k : Some b ≡ None). absurd (no_one (ap is_never k))) (λ (k : Some s ≡ None). absurd (no_one (ap is_never k))) h),
 )
   where
     no_one : ◌≡◌ {A = ℕ} 0 1 → ⊥
@@ -193,12 +191,12 @@ none_so (At b) (At s) = (
 
 -- ---- exchanged
 
-exchange : (bench seen : Moment) → lateness_of seen bench ≡ negated (lateness_of bench seen)
+exchange : (bench seen : Option Nanos) → lateness_of seen bench ≡ negated (lateness_of bench seen)
 unfolding lateness_of
-exchange Never Never = refl
-exchange Never (At s) = refl
-exchange (At b) Never = refl
-exchange (At b) (At s) = by (case_of b s)
+exchange None None = refl
+exchange None (Some s) = refl
+exchange (Some b) None = refl
+exchange (Some b) (Some s) = by (case_of b s)
   where
     back : (FarApart b s → ⊥) → FarApart s b → ⊥
     back f (inl k) = f (inr k)
@@ -208,7 +206,7 @@ exchange (At b) (At s) = by (case_of b s)
     over (inl k) = inr k
     over (inr k) = inl k
 
-    by : Case b s → lateness_of (At s) (At b) ≡ negated (lateness_of (At b) (At s))
+    by : Case b s → lateness_of (Some s) (Some b) ≡ negated (lateness_of (Some b) (Some s))
     by (near n q) = given s b (back n) ∙ ap Of (turned s.0 b.0) ∙ sym (ap negated q)
     by (far f q) = far_outside s b (over f) ∙ sym (ap negated q)
 

@@ -1,20 +1,18 @@
 -- Worked examples, which antt computes.
+use Rattle.times.specs.declared.Nanos.{Nanos}
+use Rattle.std.specs.Prelude.{Option, None, Some}
 use mathlib.Core.Path.{◌≡◌, refl}
 use mathlib.Core.List.{[], ◌∷◌, ◌++◌}
 use Prim.Native.Nat.{ℕ}
 use lib.ListN.{replicate}
 use lib.IntN.{pos, negsuc}
-use Rattle.bits.specs.Bits.{bit}
-use Rattle.readiness.specs.declared.Moment.{Moment}
-use Rattle.readiness.specs.declared.Moment.TheVariants.{Never, At}
 use Rattle.readiness.specs.declared.Moments.{Moments}
-use Rattle.readiness.specs.MadeReady.{moments_from}
 use Rattle.lateness.specs.declared.Lateness.TheVariants.{NoDifference, Of, Outside}
 use Rattle.lateness.specs.Lateness.{bench_time, within, apart, lateness_of, lateness_number, lateness_value}
 use Rattle.lateness.specs.Totals.{how_many, sum_of, lower_of, higher_of, pick_of, least_of, greatest_of, all_within, totals_of, refused, report}
 
-abbrev at : ℕ → Moment
-at t = At (record { 0 = t })
+abbrev at : ℕ → Option Nanos
+at t = Some (record { 0 = t })
 
 -- ---- the difference of a slot
 
@@ -36,11 +34,11 @@ seen_at_0 : lateness_of (at 0) (at 0) ≡ Of (pos 0)
 unfolding lateness_of apart within
 seen_at_0 = refl
 
-not_seen : lateness_of (at 12) Never ≡ NoDifference
+not_seen : lateness_of (at 12) None ≡ NoDifference
 unfolding lateness_of
 not_seen = refl
 
-not_made_ready : lateness_of Never (at 12) ≡ NoDifference
+not_made_ready : lateness_of None (at 12) ≡ NoDifference
 unfolding lateness_of
 not_made_ready = refl
 
@@ -78,18 +76,18 @@ refused_value = refl
 -- ---- the bench time: slots 0 and 2 were made Ready, at 40 ns and at 80 ns
 
 abbrev kept : Moments
-kept = record { made = 5; at_ns = 40 ∷ 0 ∷ 80 ∷ replicate 29 0 }
+kept = record { by_slot = at 40 ∷ None ∷ at 80 ∷ replicate 29 None }
 
 of_slot_2 : bench_time 3 kept 2 ≡ at 80
-unfolding bench_time moments_from bit
+unfolding bench_time
 of_slot_2 = refl
 
-never-ready : bench_time 3 kept 1 ≡ Never
-unfolding bench_time moments_from bit
+never-ready : bench_time 3 kept 1 ≡ None
+unfolding bench_time
 never-ready = refl
 
 -- on a card of two slots there is no slot 2
-past_count_lem : bench_time 2 kept 2 ≡ Never
+past_count_lem : bench_time 2 kept 2 ≡ None
 unfolding bench_time
 past_count_lem = refl
 

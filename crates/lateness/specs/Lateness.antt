@@ -1,15 +1,13 @@
 -- The difference of a slot (02, Q-7): "the seen time minus the bench time in signed nanoseconds".
-use Rattle.std.specs.Prelude.{ℕ, Bool, cond, leb, get_or, ℤ, pos, nat_abs, ◌-ℤ◌}
-use Rattle.readiness.specs.declared.Moment.{Moment}
-use Rattle.readiness.specs.declared.Moment.TheVariants.{Never, At}
+use Rattle.times.specs.declared.Nanos.{Nanos}
+use Rattle.std.specs.Prelude.{ℕ, Bool, cond, leb, get_or, ℤ, pos, nat_abs, ◌-ℤ◌, Option, None, Some}
 use Rattle.readiness.specs.declared.Moments.{Moments}
-use Rattle.readiness.specs.MadeReady.{moments_of}
 use Rattle.lateness.specs.declared.Lateness.{Lateness}
 use Rattle.lateness.specs.declared.Lateness.TheVariants.{NoDifference, Of, Outside}
 
 -- THE BENCH TIME of a slot is when the replay last made it Ready; a slot that isn't below the count, or not below 32, has none
-unfoldable pub bench_time : (slots : ℕ) → Moments → (slot : ℕ) → Moment
-bench_time slots m slot = cond (leb slots slot) Never (cond (leb 32 slot) Never (get_or (moments_of m) slot Never))
+unfoldable pub bench_time : (slots : ℕ) → Moments → (slot : ℕ) → Option Nanos
+bench_time slots m slot = cond (leb slots slot) None (cond (leb 32 slot) None (get_or m.by_slot slot None))
 
 -- the seen time minus the bench time: negative if the card was early
 abbrev pub minus : (seen bench : ℕ) → ℤ
@@ -28,10 +26,10 @@ unfoldable pub apart : (seen bench : ℕ) → Lateness
 apart seen bench = cond (within (minus seen bench)) (Of (minus seen bench)) Outside
 
 -- "without both there is no difference"
-unfoldable pub lateness_of : (bench seen : Moment) → Lateness
-lateness_of Never seen = NoDifference
-lateness_of (At b) Never = NoDifference
-lateness_of (At b) (At s) = apart s.0 b.0
+unfoldable pub lateness_of : (bench seen : Option Nanos) → Lateness
+lateness_of None seen = NoDifference
+lateness_of (Some b) None = NoDifference
+lateness_of (Some b) (Some s) = apart s.0 b.0
 
 -- in numbers: 0 none, 1 a difference, 34 refused
 unfoldable pub lateness_number : Lateness → ℕ

@@ -8,6 +8,7 @@ pub use slots::{bench_time, difference, number_of, of_slot, value_of};
 pub use summing::totals;
 
 // The difference of a slot: none, in nanoseconds and negative if early, or refused.
+// Kept: these are the three answers of the paper; an Option of a Result names them no better.
 #[derive(Clone, Copy)]
 pub enum Lateness {
     NoDifference,
@@ -16,6 +17,7 @@ pub enum Lateness {
 }
 
 // The totals of a list of differences; `number` is 0, or 34 or 35 with all totals 0.
+// Kept: `totals` is an entry, which answers the papers' number beside totals that are 0 then.
 #[derive(Clone, Copy)]
 pub struct Report {
     pub number: u8,

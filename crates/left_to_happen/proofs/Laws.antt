@@ -9,8 +9,9 @@ use lib.ListN.{length, set, take}
 use lib.Seq.{take_at, length-take-le}
 use Rattle.times.specs.declared.Nanos.{Nanos}
 use Rattle.times.specs.Moments.{sum_of, clock_end}
+use Rattle.std.specs.Prelude.{Option, Some, None}
 use Rattle.messages.specs.declared.Message.{Message}
-use Rattle.messages.specs.declared.Message.TheVariants.{Drs, Frs, NotReadiness}
+use Rattle.messages.specs.declared.Message.TheVariants.{Drs, Frs}
 use Rattle.frs_queue.specs.Queue.{no_tally}
 use Rattle.readiness.specs.declared.Setup.{Setup}
 use Rattle.readiness.specs.declared.Status.{Status}
@@ -43,18 +44,18 @@ module _ (setup : Setup) (cells : List ℕ) (x : LeftToHappen) where
       ap (happens_of setup cells x.dev (take setup.slots (statuses_in x.phases))) e
       ∙ (λ j. settling setup (scene (q j) cells (record { dev = p j; tally = no_tally })))
 
-  pub left_arriving : (b : Bool) (m : Message) (d : Dev) (l : List Status) (live : List ℕ) → x.left ≡ cond b (Arriving m) Nothing → x.dev ≡ d → left_happens setup cells x ≡ cond b (by_message setup (state d l live cells) m) []
+  pub left_arriving : (b : Bool) (m : Option Message) (d : Dev) (l : List Status) (live : List ℕ) → x.left ≡ cond b (Arriving m) Nothing → x.dev ≡ d → left_happens setup cells x ≡ cond b (by_message setup (state d l live cells) m) []
   unfolding left_happens
   left_arriving b m d l live e p =
       ap (happens_of setup cells x.dev (take setup.slots (statuses_in x.phases))) e
       ∙ by b m
     where
-      messages : (m : Message) → by_message setup (state x.dev (take setup.slots (statuses_in x.phases)) [] cells) m ≡ by_message setup (state d l live cells) m
-      messages NotReadiness = refl
-      messages (Drs id) = ap (λ (e : Dev). drs_happens false e.clock setup.port_id (record { dev = e; cells = cells; tally = no_tally })) p
-      messages (Frs id reason) = ap (λ (e : Dev). frs_happen e.clock (record { id = id; reason = reason } ∷ []) (record { dev = e; cells = cells; tally = no_tally })) p
+      messages : (m : Option Message) → by_message setup (state x.dev (take setup.slots (statuses_in x.phases)) [] cells) m ≡ by_message setup (state d l live cells) m
+      messages None = refl
+      messages (Some (Drs id)) = ap (λ (e : Dev). drs_happens false e.clock setup.port_id (record { dev = e; cells = cells; tally = no_tally })) p
+      messages (Some (Frs id reason)) = ap (λ (e : Dev). frs_happen e.clock (record { id = id; reason = reason } ∷ []) (record { dev = e; cells = cells; tally = no_tally })) p
 
-      by : (b : Bool) (m : Message) → happens_of setup cells x.dev (take setup.slots (statuses_in x.phases)) (cond b (Arriving m) Nothing) ≡ cond b (by_message setup (state d l live cells) m) []
+      by : (b : Bool) (m : Option Message) → happens_of setup cells x.dev (take setup.slots (statuses_in x.phases)) (cond b (Arriving m) Nothing) ≡ cond b (by_message setup (state d l live cells) m) []
       by true m = messages m
       by false m = refl
 

@@ -1,4 +1,5 @@
 // What is left to happen once a record has done its part, from the bench as it was before the record; and what a write starts.
+// Kept in this file: what is lent goes as slices beside set-up and device, and how they fit stands in clauses, since a struct of `&mut` slices needs a clause on its ghost name in each function.
 #![tactic(auto)]
 
 pub mod writes; // what a configuration write starts
@@ -27,11 +28,12 @@ use times::Nanos;
 use writes::{is_start, note_in, status_by};
 
 // Nothing; slots that become Ready, and the DRS; or a message that arrives.
+// Kept: three cases that a caller tells apart; an Option of the other two would say no more.
 #[derive(Clone, Copy)]
 pub enum Left {
     Nothing,
     Settling,
-    Arriving(Message),
+    Arriving(Option<Message>),
 }
 
 // What a write starts, what is left to happen, the device, and the slot statuses as numbers.
@@ -107,7 +109,7 @@ fn by_link_up(setup: Setup, dev: Dev, statuses: [Status; 32]) -> LeftToHappen
 }
 
 // A message, with the link up.
-fn by_message(dev: Dev, message: Message) -> LeftToHappen
+fn by_message(dev: Dev, message: Option<Message>) -> LeftToHappen
     ensures note_value { result.note ≡ Note.Plain }
     ensures dev_value { result.dev ≡ dev }
     ensures left_value { result.left ≡ cond dev.link (Left.Arriving message) Left.Nothing }

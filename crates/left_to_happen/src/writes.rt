@@ -33,6 +33,7 @@ fn woken(new: u32) -> Note
     Note::WakesReset
 }
 
+// Kept in this file: what a write is, word by word; a struct for it would be made for these calls alone.
 // A write of word i, from old to new.
 fn note_of(
     kind: Kind,

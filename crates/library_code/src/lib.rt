@@ -9,8 +9,7 @@ ghost use Rattle.state_layout.specs.Numbers.{low_first};
 ghost use Rattle.state_layout.specs.Image.{state_bytes};
 ghost use Rattle.library_run.specs.Run.{shown, image_of, image_size, showing, ran_on, run_on_card, run_on_text};
 
-use bits::{at_most, u64_of_u8, u64_of_usize};
-use card_grammar::CardRead;
+use card_grammar::Card;
 use feed::Fed;
 use readiness::{Setup, Status};
 use records::Port;
@@ -37,8 +36,8 @@ fn image_bytes(slots: usize, queue: usize) -> usize
 fn put_counts(image: &mut [u8], consumed: usize, written: usize)
     ensures { image.new ≡ sets image.old 0 (low_first 8 consumed ++ low_first 8 written) }
 {
-    put_eight(&mut *image, 0, u64_of_usize(consumed));
-    put_eight(&mut *image, 8, u64_of_usize(written));
+    put_eight(&mut *image, 0, consumed as u64);
+    put_eight(&mut *image, 8, written as u64);
 }
 
 fn put_state_behind(image: &mut [u8], slots: usize, port: Port, statuses: [Status; 32])
@@ -49,6 +48,7 @@ fn put_state_behind(image: &mut [u8], slots: usize, port: Port, statuses: [Statu
     put_state(&mut image[16..], port, statuses, slots);
 }
 
+// Kept: the slices and counts stay as they are named by the staticlibs' C interface and by `library_run`'s definitions; a struct of them would be made for one call.
 fn put_image(image: &mut [u8], slots: usize, fed: Fed, live: &[u32], cells: &[u32])
     requires { (slots ≤ 32) × (length live.now ≡ 64 * slots) × (image_size slots (length cells.now) ≤ length image.old) }
     ensures image_after { image.new
@@ -67,6 +67,7 @@ fn put_image(image: &mut [u8], slots: usize, fed: Fed, live: &[u32], cells: &[u3
 // ---- The run
 
 // Replays a capture or feeds a trace, over lent memory, and puts the counts and the state.
+// Kept: nine parameters, each of which `library_run`'s `ran_on` and `showing` take one by one.
 fn run_and_show(
     captured: bool,
     piece: usize,
@@ -97,15 +98,16 @@ fn run_and_show(
             answers,
         )
     };
-    put_image(image, at_most(setup.slots, 32), fed, live, cells);
-    u64_of_u8(fed.number)
+    put_image(image, setup.slots.min(32), fed, live, cells);
+    u64::from(fed.number)
 }
 
 // Runs a capture or a trace on a card that was read.
+// Kept: seven parameters, as `library_run`'s `run_on_card` takes them.
 fn run_card(
     captured: bool,
     piece: usize,
-    read: CardRead,
+    card: Card,
     words: &[u32],
     input: &[u8],
     answers: &mut [u8],
@@ -113,14 +115,14 @@ fn run_card(
 ) -> u64
     requires { length words.now ≡ 2048 }
     ensures { shown result answers.new image.new
-        ≡ run_on_card captured piece read words.now input.now answers.old image.old }
+        ≡ run_on_card captured piece card words.now input.now answers.old image.old }
 {
     let mut live = [0u32; 2048];
     let mut cells = [0u32; 4095];
-    let setup = read.setup;
-    let slots = at_most(setup.slots, 32);
+    let setup = card.setup;
+    let slots = setup.slots.min(32);
     let of_slots = 64 * slots;
-    let queue = at_most(read.queue, 4095);
+    let queue = card.queue.min(4095);
     if image.len() < image_bytes(slots, queue) {
         return SHORT_IMAGE;
     }
@@ -138,6 +140,7 @@ fn run_card(
 }
 
 // Reads the card's text, and runs a capture or a trace on the card.
+// Kept: six parameters, as the staticlibs' C functions are given them.
 pub fn run_text(
     captured: bool,
     piece: usize,
@@ -150,9 +153,8 @@ pub fn run_text(
         ≡ run_on_text captured piece card.now input.now answers.old image.old }
 {
     let mut words = [0u32; 2048];
-    let read = card_text::read_card(card, &mut words);
-    if !read.ok {
-        return BAD_CARD;
+    match card_text::read_card(card, &mut words) {
+        Ok(card) => run_card(captured, piece, card, &words, input, answers, image),
+        Err(_) => BAD_CARD,
     }
-    run_card(captured, piece, read, &words, input, answers, image)
 }

@@ -17,9 +17,11 @@ use Rattle.state_layout.specs.Numbers.{low_first, word_bytes}
 use Rattle.state_layout.specs.Image.{state_bytes}
 use Rattle.state_layout.proofs.Numbers.{length-low, length_words}
 use Rattle.state_layout.proofs.Steps.{length-state}
-use Rattle.card_grammar.specs.declared.CardRead.{CardRead}
+use Rattle.std.specs.Prelude.{Result, Err}
+use Rattle.card_grammar.specs.declared.Card.{Card}
+use Rattle.card_grammar.specs.declared.CardError.{CardError}
 use Rattle.card_grammar.specs.Card.{card_of}
-use Rattle.library_run.specs.Run.{shown, image_of, image_bytes, image_size, showing, run_on_card, run_on_text}
+use Rattle.library_run.specs.Run.{shown, image_of, image_bytes, image_size, showing, run_on_card, run_on_read, run_on_text}
 
 -- ---- The image
 module _ (consumed written : ℕ) (port : Port) (s : List Status) (live cells : List ℕ) where
@@ -86,14 +88,15 @@ showed slots x lent =
 
 -- ---- The numbers for no
 -- 101 WHERE THE IMAGE IS TOO SHORT: nothing changes
-pub short_image : (captured : Bool) (piece : ℕ) (read : CardRead) (words input answers lent : List ℕ)
-    → length lent < image_size (at_most read.setup.slots 32) (at_most read.queue 4095)
-    → run_on_card captured piece read words input answers lent ≡ shown 101 answers lent
+pub short_image : (captured : Bool) (piece : ℕ) (card : Card) (words input answers lent : List ℕ)
+    → length lent < image_size (at_most card.setup.slots 32) (at_most card.queue 4095)
+    → run_on_card captured piece card words input answers lent ≡ shown 101 answers lent
 unfolding run_on_card
-short_image captured piece read words input answers lent h = when_true _ _ _ (lt-ltb _ _ h)
+short_image captured piece card words input answers lent h = when_true _ _ _ (lt-ltb _ _ h)
 
 -- 100 WHERE THE TEXT IS NO CARD: nothing changes
-pub no_card : (captured : Bool) (piece : ℕ) (text input answers lent : List ℕ) → (card_of text (replicate 2048 0)).read.ok ≡ false
+pub no_card : (captured : Bool) (piece : ℕ) (text input answers lent : List ℕ) (e : CardError) → (card_of text (replicate 2048 0)).read ≡ Err e
     → run_on_text captured piece text input answers lent ≡ shown 100 answers lent
 unfolding run_on_text
-no_card captured piece text input answers lent e = when_false _ _ _ e
+no_card captured piece text input answers lent e h =
+    ap (λ (r : Result Card CardError). run_on_read captured piece r (card_of text (replicate 2048 0)).words input answers lent) h

@@ -1,5 +1,5 @@
 -- What a run of a card's text and a trace or a capture gives.
-use Rattle.std.specs.Prelude.{ℕ, ◌+◌, ◌*◌, Bool, true, false, cond, List, ◌++◌, ltb, length, take, drop, replicate}
+use Rattle.std.specs.Prelude.{ℕ, ◌+◌, ◌*◌, Bool, true, false, cond, List, ◌++◌, ltb, length, take, drop, replicate, Result, Ok, Err}
 use Rattle.bits.specs.Widths.{at_most}
 use Rattle.trace.specs.Lent.{Left}
 use Rattle.readiness.specs.declared.Setup.{Setup}
@@ -10,7 +10,8 @@ use Rattle.trace_in_pieces.specs.Pieces.{blank_held, runs_on}
 use Rattle.trace_in_pieces.specs.Captures.{replays_on}
 use Rattle.state_layout.specs.Numbers.{low_first, word_bytes}
 use Rattle.state_layout.specs.Image.{state_bytes}
-use Rattle.card_grammar.specs.declared.CardRead.{CardRead}
+use Rattle.card_grammar.specs.declared.Card.{Card}
+use Rattle.card_grammar.specs.declared.CardError.{CardError}
 use Rattle.card_grammar.specs.Card.{card_of}
 
 -- the result, and the lent answers and image afterwards
@@ -53,19 +54,23 @@ ran_on true piece setup defaults h input answers = replays_on setup defaults h i
 ran_on false piece setup defaults h input answers = runs_on setup defaults piece h input answers
 
 -- on a card that was read: 101 where the image is too short
-unfoldable pub run_on_card : (captured : Bool) (piece : ℕ) → CardRead → (words input answers image : List ℕ) → Shown
-run_on_card captured piece read words input answers image =
-    let slots = at_most read.setup.slots 32 in
-    let cells = at_most read.queue 4095 in
+unfoldable pub run_on_card : (captured : Bool) (piece : ℕ) → Card → (words input answers image : List ℕ) → Shown
+run_on_card captured piece card words input answers image =
+    let slots = at_most card.setup.slots 32 in
+    let cells = at_most card.queue 4095 in
     cond (ltb (length image) (image_size slots cells))
     (shown 101 answers image)
-    (showing slots (ran_on captured piece read.setup (take (64 * slots) words) (fresh_for read.setup slots cells) input answers) image)
+    (showing slots (ran_on captured piece card.setup (take (64 * slots) words) (fresh_for card.setup slots cells) input answers) image)
 
--- on a card's text: 100 where the text is refused
+-- on what a card's text was read as: 100 where it is refused
+abbrev pub run_on_read : (captured : Bool) (piece : ℕ) → Result Card CardError → (words input answers image : List ℕ) → Shown
+run_on_read captured piece (Ok card) words input answers image = run_on_card captured piece card words input answers image
+run_on_read captured piece (Err e) words input answers image = shown 100 answers image
+
+-- on a card's text
 unfoldable pub run_on_text : (captured : Bool) (piece : ℕ) → (text input answers image : List ℕ) → Shown
 run_on_text captured piece text input answers image =
-    let card = card_of text (replicate 2048 0) in
-    cond card.read.ok (run_on_card captured piece card.read card.words input answers image) (shown 100 answers image)
+    let left = card_of text (replicate 2048 0) in run_on_read captured piece left.read left.words input answers image
 
 -- THE RUN of a trace, in pieces of this size
 abbrev pub run_of : (text trace : List ℕ) (piece : ℕ) (answers image : List ℕ) → Shown

@@ -9,18 +9,19 @@ use borrow.Author.Tests.{eqb-true}
 use lib.ListN.{length}
 use lib.Dec.{eqb}
 use Rattle.bits.proofs.Tests.{split}
+use Rattle.std.specs.Prelude.{Option, Some, None}
 use Rattle.messages.specs.declared.Message.{Message}
-use Rattle.messages.specs.declared.Message.TheVariants.{Drs, Frs, NotReadiness}
+use Rattle.messages.specs.declared.Message.TheVariants.{Drs, Frs}
 use Rattle.bits.specs.Bytes.{Bytes, byte_at}
 use Rattle.bits.proofs.Bytes.{byte_at_lem}
 use Rattle.messages.specs.Messages.{drs, frs, subtype_of, traffic_class, requester_id, frs_reason, layout, frs_allowed, frs_read, read_message, reading, reading_of, writable, canonical, left, stored, written, listed_only}
 use Rattle.messages.proofs.Laid.{Laid, laid, allowed_small}
 
 -- A reading is one of three: what holds of each holds of the reading.
-pub cases : (P : Message → Type 0) (m : List ℕ)
-    → (Laid drs m → P (Drs (requester_id m)))
-    → (Laid frs m → frs_allowed (frs_reason m) ≡ true → P (Frs (requester_id m) (frs_reason m)))
-    → P NotReadiness
+pub cases : (P : Option Message → Type 0) (m : List ℕ)
+    → (Laid drs m → P (Some (Drs (requester_id m))))
+    → (Laid frs m → frs_allowed (frs_reason m) ≡ true → P (Some (Frs (requester_id m) (frs_reason m))))
+    → P None
     → P (read_message m)
 unfolding read_message frs_read
 cases P m d f n =

@@ -10,8 +10,8 @@ use borrow.Author.Tests.{eqb-true, eqb-false, eq-eqb, ne_eqb, lt-ltb, le-ltb}
 use lib.ListN.{length}
 use lib.Dec.{eqb, ltb}
 use Rattle.bits.proofs.Tests.{split}
+use Rattle.std.specs.Prelude.{Option, None}
 use Rattle.messages.specs.declared.Message.{Message}
-use Rattle.messages.specs.declared.Message.TheVariants.{NotReadiness}
 use Rattle.bits.specs.Bytes.{Bytes, byte_at}
 use Rattle.bits.proofs.Bytes.{byte_at_lem}
 use Rattle.messages.specs.Messages.{drs, frs, traffic_class, requester_id, frs_reason, layout, frs_allowed, read_message, reading, reading_of, writable, canonical, Written, left, stored, written, listed_only}
@@ -40,7 +40,7 @@ pub same_listed_same_reading : (m n : List ℕ) → length m ≡ 16 → length n
 same_listed_same_reading m n h k e = unlisted_ignored m h ∙ ap read_message e ∙ sym (unlisted_ignored n k)
 
 -- Any other length is no readiness message.
-pub other_length : (m : List ℕ) → (length m ≡ 16 → ⊥) → read_message m ≡ NotReadiness
+pub other_length : (m : List ℕ) → (length m ≡ 16 → ⊥) → read_message m ≡ None
 unfolding read_message layout
 other_length m n = simp (ne_eqb (length m) 16 n)
 
@@ -48,15 +48,15 @@ other_length m n = simp (ne_eqb (length m) 16 n)
 pub read_is_16 : (m : List ℕ) → (reading_of (read_message m)).number ≡ 0 → length m ≡ 16
 read_is_16 m e =
     split (eqb (length m) 16) (λ t. eqb-true (length m) 16 t)
-    (λ f. let z : 19 ≡ 0 = sym (ap (λ (r : Message). (reading_of r).number) (other_length m (eqb-false (length m) 16 f))) ∙ e in absurd (omega arith))
+    (λ f. let z : 19 ≡ 0 = sym (ap (λ (r : Option Message). (reading_of r).number) (other_length m (eqb-false (length m) 16 f))) ∙ e in absurd (omega arith))
 
 -- The requester ID has 16 bits.
 pub id_bound : (m : List ℕ) → Bytes m → (reading_of (read_message m)).id < 65536
-id_bound m b = cases (λ (r : Message). (reading_of r).id < 65536) m (λ l. omega (arith, byte_at_lem m 4 b, byte_at_lem m 5 b)) (λ l a. omega (arith, byte_at_lem m 4 b, byte_at_lem m 5 b)) (omega arith)
+id_bound m b = cases (λ (r : Option Message). (reading_of r).id < 65536) m (λ l. omega (arith, byte_at_lem m 4 b, byte_at_lem m 5 b)) (λ l a. omega (arith, byte_at_lem m 4 b, byte_at_lem m 5 b)) (omega arith)
 
 -- A reading's reason has four bits.
 pub reason_bound : (m : List ℕ) → (reading_of (read_message m)).reason < 16
-reason_bound m = cases (λ (r : Message). (reading_of r).reason < 16) m (λ l. omega arith) (λ l a. allowed_small (frs_reason m) a) (omega arith)
+reason_bound m = cases (λ (r : Option Message). (reading_of r).reason < 16) m (λ l. omega arith) (λ l a. allowed_small (frs_reason m) a) (omega arith)
 
 -- WRITING
 
@@ -115,7 +115,7 @@ pub write_after_read : (m room : List ℕ) → Bytes m → length room ≡ 16 �
     → let r = reading_of (read_message m) in written r.kind r.id r.reason room ≡ left 0 (listed_only m)
 write_after_read m room b n =
     cases
-    (λ (r : Message). (reading_of r).number ≡ 0 → written (reading_of r).kind (reading_of r).id (reading_of r).reason room ≡ left 0 (listed_only m)) m
+    (λ (r : Option Message). (reading_of r).number ≡ 0 → written (reading_of r).kind (reading_of r).id (reading_of r).reason room ≡ left 0 (listed_only m)) m
     (λ l z. drs-written (requester_id m) room n ∙ ap (left 0) (canonical-listed drs 0 m b l refl))
     (λ l a z. frs-written (requester_id m) (frs_reason m) room a n ∙ ap (left 0) (canonical-listed frs (frs_reason m) m b l refl))
     (λ z. absurd (omega arith))

@@ -1,8 +1,8 @@
 -- Readiness messages (01, "Messages (16 bytes)"): DRS and FRS.
-use Rattle.std.specs.Prelude.{ℕ, ◌+◌, ◌*◌, ◌/◌, ◌%◌, Bool, ◌&&◌, cond, List, [], ◌∷◌, length, eqb, ltb}
+use Rattle.std.specs.Prelude.{ℕ, ◌+◌, ◌*◌, ◌/◌, ◌%◌, Bool, ◌&&◌, cond, List, [], ◌∷◌, length, eqb, ltb, Option, Some, None}
 use Rattle.bits.specs.Bytes.{byte_at}
 use Rattle.messages.specs.declared.Message.{Message}
-use Rattle.messages.specs.declared.Message.TheVariants.{Drs, Frs, NotReadiness}
+use Rattle.messages.specs.declared.Message.TheVariants.{Drs, Frs}
 
 -- byte 0: 34h DRS, 30h FRS
 abbrev pub drs : ℕ
@@ -43,13 +43,13 @@ unfoldable pub frs_allowed : ℕ → Bool
 frs_allowed reason = ltb reason 16
 
 -- an FRS as it is read, with its ID and reason; none where it may not have that reason
-unfoldable pub frs_read : ℕ → ℕ → Message
-frs_read id reason = cond (frs_allowed reason) (Frs id reason) NotReadiness
+unfoldable pub frs_read : ℕ → ℕ → Option Message
+frs_read id reason = cond (frs_allowed reason) (Some (Frs id reason)) None
 
 -- what a message is read as, at every length and content
-unfoldable pub read_message : List ℕ → Message
+unfoldable pub read_message : List ℕ → Option Message
 read_message m =
-    cond (layout drs m) (Drs (requester_id m)) (cond (layout frs m) (frs_read (requester_id m) (frs_reason m)) NotReadiness)
+    cond (layout drs m) (Some (Drs (requester_id m))) (cond (layout frs m) (frs_read (requester_id m) (frs_reason m)) None)
 
 -- what a reading gives: 0 or 19, and then the kind (byte 0), the requester ID and the reason
 pub record Reading : Type 0 where
@@ -62,10 +62,10 @@ abbrev pub reading : ℕ → ℕ → ℕ → ℕ → Reading
 reading number kind id reason = record { number = number; kind = kind; id = id; reason = reason }
 
 -- the number and the values of each case: a DRS has reason 0, and no readiness message is 19
-abbrev pub reading_of : Message → Reading
-reading_of (Drs id) = reading 0 drs id 0
-reading_of (Frs id reason) = reading 0 frs id reason
-reading_of NotReadiness = reading 19 0 0 0
+abbrev pub reading_of : Option Message → Reading
+reading_of (Some (Drs id)) = reading 0 drs id 0
+reading_of (Some (Frs id reason)) = reading 0 frs id reason
+reading_of None = reading 19 0 0 0
 
 -- a kind and a reason that can be written: a DRS with reason 0, an FRS with a reason that it may have, and no other kind
 unfoldable pub writable : ℕ → ℕ → Bool

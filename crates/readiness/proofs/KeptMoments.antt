@@ -1,23 +1,21 @@
 -- The moments of slots that become Ready, as numbers and as they are kept.
-use Prim.Native.Nat.{ℕ, zero, suc, ◌+◌, ◌<◌}
+use Rattle.std.specs.Prelude.{Option, Some}
+use Prim.Native.Nat.{ℕ, zero, suc, ◌<◌}
 use native.Mathlib.Omega.{arith}
 use mathlib.Core.Path.{◌≡◌, refl, sym, ap, ◌∙◌, subst}
 use mathlib.Core.Bool.{Bool, cond}
 use mathlib.Core.List.{List, [], ◌∷◌, ◌++◌}
 use lib.ListN.{length, get_or, set, replicate, length-set, get_or-eq_default}
 use borrow.Author.Tests.{ne_eqb}
-use Rattle.bits.specs.Bits.{bit}
 use Rattle.bits.proofs.Numbers.{by_le}
 use Rattle.times.specs.declared.Nanos.{Nanos}
 use Rattle.times.specs.Moments.{greatest_nanos}
-use Rattle.readiness.specs.declared.Moment.{Moment}
-use Rattle.readiness.specs.declared.Moment.TheVariants.{Never, At}
 use Rattle.readiness.specs.declared.Cause.{Cause}
 use Rattle.readiness.specs.declared.Phase.TheVariants.{Pending}
 use Rattle.readiness.specs.declared.Status.{Status}
 use Rattle.readiness.specs.Status.{ready}
 use Rattle.readiness.specs.Events.{Event, due}
-use Rattle.readiness.specs.MadeReady.{moment_in, moments_from, noted}
+use Rattle.readiness.specs.MadeReady.{noted}
 use Rattle.readiness.specs.inner.Phases.{notes, moment_with, moments_with}
 use Rattle.readiness.proofs.Order.{Each, each_map, Awaited, due_from-sound, never-pending}
 
@@ -42,16 +40,16 @@ due-within clock l h = each_map (Awaited 0 clock l) (Within (length l)) one (due
     one e w = (omega (arith, w.slot, pending_there l w.at e.cause e.time w.pends), omega (arith, w.now, h))
 
 -- ---- numbers and moments
-with_set : (ms : List Moment) (l : List ℕ) (i t : ℕ) → i < length l → t < greatest_nanos → moments_with ms (set l i t) ≡ set (moments_with ms l) i (At (record { 0 = t }))
+with_set : (ms : List (Option Nanos)) (l : List ℕ) (i t : ℕ) → i < length l → t < greatest_nanos → moments_with ms (set l i t) ≡ set (moments_with ms l) i (Some (record { 0 = t }))
 unfolding moments_with
 with_set [] l i t h g = refl
 with_set (m ∷ ms) [] i t h g = absurd (omega arith)
 with_set (m ∷ ms) (x ∷ l) zero t h g =
-    ap (λ (b : Bool). cond b m (At (record { 0 = t })) ∷ moments_with ms l) (ne_eqb t greatest_nanos (λ z. omega (arith, z, g)))
-with_set (m ∷ ms) (x ∷ l) (suc i) t h g = ap (λ (r : List Moment). moment_with m x ∷ r) (with_set ms l i t (omega arith) g)
+    ap (λ (b : Bool). cond b m (Some (record { 0 = t })) ∷ moments_with ms l) (ne_eqb t greatest_nanos (λ z. omega (arith, z, g)))
+with_set (m ∷ ms) (x ∷ l) (suc i) t h g = ap (λ (r : List (Option Nanos)). moment_with m x ∷ r) (with_set ms l i t (omega arith) g)
 
 -- what is noted in the numbers is noted in the moments
-pub with_notes : (es : List Event) (ms : List Moment) (l : List ℕ) → Each (Within (length l)) es → moments_with ms (notes es l) ≡ noted es (moments_with ms l)
+pub with_notes : (es : List Event) (ms : List (Option Nanos)) (l : List ℕ) → Each (Within (length l)) es → moments_with ms (notes es l) ≡ noted es (moments_with ms l)
 unfolding notes noted
 with_notes [] ms l h = refl
 with_notes (e ∷ es) ms l h =
@@ -64,16 +62,8 @@ notes-length [] l = refl
 notes-length (e ∷ es) l = notes-length es (set l e.slot e.time.0) ∙ length-set l e.slot e.time.0
 
 -- none of the numbers has a moment
-pub with_never : (ms : List Moment) (n : ℕ) → moments_with ms (replicate n greatest_nanos) ≡ ms
+pub with_never : (ms : List (Option Nanos)) (n : ℕ) → moments_with ms (replicate n greatest_nanos) ≡ ms
 unfolding moments_with
 with_never [] n = refl
 with_never (m ∷ ms) zero = refl
-with_never (m ∷ ms) (suc n) = ap (λ (r : List Moment). m ∷ r) (with_never ms n)
-
--- ---- the moment that is kept for a slot
-pub moment_at : (first made : ℕ) (l : List ℕ) (i : ℕ) → i < length l → get_or (moments_from first made l) i Never ≡ moment_in (bit made (first + i)) (get_or l i 0)
-unfolding moments_from
-moment_at first made [] i h = absurd (omega arith)
-moment_at first made (t ∷ l) zero h = ap (λ (k : ℕ). moment_in (bit made k) t) (omega arith)
-moment_at first made (t ∷ l) (suc i) h =
-    moment_at (suc first) made l i (omega arith) ∙ ap (λ (k : ℕ). moment_in (bit made k) (get_or l i 0)) (omega arith)
+with_never (m ∷ ms) (suc n) = ap (λ (r : List (Option Nanos)). m ∷ r) (with_never ms n)

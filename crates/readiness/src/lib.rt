@@ -76,26 +76,18 @@ pub struct RootPort {
     pub tally: Tally,
 }
 
-// A moment of the bench's clock, or none.
-#[derive(Clone, Copy)]
-pub enum Moment {
-    Never,
-    At(Nanos),
-}
-
 // One slot that has settled: when it became Ready then, if it did.
 #[derive(Clone, Copy)]
 pub struct SlotSettled {
     pub status: Status,
     pub port: RootPort,
-    pub made: Moment,
+    pub made: Option<Nanos>,
 }
 
-// For each of 32 slots the moment, in nanoseconds, at which it was last made Ready; a bit of `made` says for each slot whether there is one.
+// For each of 32 slots the moment at which it was last made Ready, if it was.
 #[derive(Clone, Copy)]
 pub struct Moments {
-    pub made: u32,
-    pub at_ns: [u64; 32],
+    pub by_slot: [Option<Nanos>; 32],
 }
 
 // ---- Blank values: every number 0, every bit off, every slot Down
@@ -150,10 +142,9 @@ pub fn blank_slot() -> Slot
 pub fn blank_setup() -> Setup
     ensures { result ≡ blank_setup }
 {
-    let entries = [blank_slot(); 32];
     Setup {
         slots: 0,
-        entries: entries,
+        entries: [blank_slot(); 32],
         bus: 0,
         port_id: 0,
     }
@@ -170,7 +161,6 @@ pub fn no_moments() -> Moments
     ensures { result ≡ no_moments }
 {
     Moments {
-        made: 0,
-        at_ns: [0; 32],
+        by_slot: [None; 32],
     }
 }

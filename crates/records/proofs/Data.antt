@@ -11,8 +11,9 @@ use Rattle.bits.specs.Bits.{bit, one, number, word}
 use Rattle.bits.proofs.Tests.{all_at, is_true, split}
 use Rattle.registers.specs.Words.{lane_mask, hardware_set}
 use Rattle.times.specs.Moments.{sum_of, clock_end}
+use Rattle.std.specs.Prelude.{Option, Some, None}
 use Rattle.messages.specs.declared.Message.{Message}
-use Rattle.messages.specs.declared.Message.TheVariants.{Drs, Frs, NotReadiness}
+use Rattle.messages.specs.declared.Message.TheVariants.{Drs, Frs}
 use Rattle.frs_queue.specs.Queue.{no_tally}
 use Rattle.readiness.specs.declared.Setup.{Setup}
 use Rattle.readiness.specs.Status.{is_ready, entry_of}
@@ -85,11 +86,11 @@ neither : {S : Type 0} (b : Bool) (x y : Effect S) → effect_data x ≡ 0 → e
 neither true x y p q = p
 neither false x y p q = q
 
-message_data : (port_id : ℕ) (m : Message) (p : Front) → effect_data (message_done port_id m p) ≡ 0
+message_data : (port_id : ℕ) (m : Option Message) (p : Front) → effect_data (message_done port_id m p) ≡ 0
 unfolding message_done
-message_data port_id NotReadiness p = refl
-message_data port_id (Drs id) p = refl
-message_data port_id (Frs id reason) p = refl
+message_data port_id None p = refl
+message_data port_id (Some (Drs id)) p = refl
+message_data port_id (Some (Frs id reason)) p = refl
 
 module _ (setup : Setup) (defaults : List ℕ) (s : State) where
   -- a read that isn't done has the data of its status

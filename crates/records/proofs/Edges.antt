@@ -8,6 +8,7 @@ use lib.Dec.{ltb, eqb}
 use lib.ListN.{length}
 use Rattle.bits.specs.Bits.{bit, one}
 use Rattle.bits.proofs.Tests.{truth}
+use Rattle.std.specs.Prelude.{Some}
 use Rattle.messages.specs.declared.Message.TheVariants.{Drs, Frs}
 use Rattle.frs_queue.specs.declared.Tally.{Tally}
 use Rattle.frs_queue.specs.Queue.{Ring, no_tally}
@@ -147,8 +148,8 @@ module _ (setup : Setup) (defaults : List ℕ) (s : State) (sound : Sound setup 
         advance = λ by e. edges_does setup s (Advance by) _ no_tally (o.advance by e) few 0;
         read = λ p e. edges_does setup s (Read p) s no_tally (o.read p e) few _;
         write = λ p value e. edges_does setup s (Write p value) _ no_tally (o.write p value e) few 0;
-        drs = λ id e. edges_does setup s (MessageRecord (Drs id)) _ _ (o.drs id e) few 0;
-        frs = λ id reason e. edges_does setup s (MessageRecord (Frs id reason)) _ _ (o.frs id reason e) few 0;
+        drs = λ id e. edges_does setup s (MessageRecord (Some (Drs id))) _ _ (o.drs id e) few 0;
+        frs = λ id reason e. edges_does setup s (MessageRecord (Some (Frs id reason))) _ _ (o.frs id reason e) few 0;
         link_up = λ e. edges_does setup s LinkUp _ no_tally (o.link_up e) few 0;
         link_down = λ e. no_edges setup s _ 0 stopped refl (not-and_self q.received) (not-and_self q.overflow) (and-false (not s.port.drs_received));
         cold_reset = no_edges setup s _ 0 stopped refl (and-false (not q.received)) (and-false (not q.overflow)) (and-false (not s.port.drs_received));
@@ -195,8 +196,8 @@ module _ (setup : Setup) (defaults : List ℕ) (s : State) (sound : Sound setup 
         advance = λ by e. few_sent (Advance by) _ no_tally (o.advance by e) refl;
         read = λ p e. few_sent (Read p) s no_tally (o.read p e) refl;
         write = λ p value e. few_sent (Write p value) _ no_tally (o.write p value e) refl;
-        drs = λ id e. few_own (MessageRecord (Drs id)) (with_root (drs_arrives setup.port_id (root_of s no_tally)) s) rests drs_rests;
-        frs = λ id reason e. few_own (MessageRecord (Frs id reason)) (with_root (frs_arrive (record { id = id; reason = reason } ∷ []) (root_of s no_tally)) s) rests drs_rests;
+        drs = λ id e. few_own (MessageRecord (Some (Drs id))) (with_root (drs_arrives setup.port_id (root_of s no_tally)) s) rests drs_rests;
+        frs = λ id reason e. few_own (MessageRecord (Some (Frs id reason))) (with_root (frs_arrive (record { id = id; reason = reason } ∷ []) (root_of s no_tally)) s) rests drs_rests;
         link_up = λ e. few_sent LinkUp _ no_tally (o.link_up e) refl;
         link_down = λ e. few_sent LinkDown _ no_tally (o.link_down e) refl;
         cold_reset = few_sent ColdReset _ no_tally o.cold_reset refl;

@@ -13,6 +13,7 @@ use Rattle.registers.specs.Rows.{endpoint_table, find, endpoint_row, row_of, rea
 use Rattle.registers.specs.Words.{lane_mask, read_word, write_bit, write_word, reset_bit, link_reset, flr_reset, hardware_set, starts_d3hot}
 use Rattle.registers.specs.inner.Masks.{held}
 use Rattle.config_space.specs.Functions.{reset_where, link_reset_slot, flr_reset_slot, link_reset_all, cold_reset}
+use Rattle.std.specs.Prelude.{Some}
 use Rattle.messages.specs.declared.Message.TheVariants.{Drs, Frs}
 use Rattle.frs_queue.specs.Queue.{counted, place_of, queues, drops, arrives, arrive_all, removed, register_of, messages_of}
 use Rattle.readiness.specs.declared.Cause.TheVariants as cause
@@ -335,13 +336,13 @@ drs_not_yet = refl
 
 -- queue of 1, two FRS
 abbrev first : State
-first = after (settled (with false true 0)) (Message (Frs 0x0101 3))
+first = after (settled (with false true 0)) (Message (Some (Frs 0x0101 3)))
 
 abbrev second : State
-second = after first (Message (Frs 0x0102 2))
+second = after first (Message (Some (Frs 0x0102 2)))
 
 -- an FRS by message is counted, and raises the interrupt of Received
-pub first_queued : answer_bytes (run card defaults (settled (with false true 0)) (Message (Frs 0x0101 3))).reply ≡ 0 ∷ 1 ∷ 1 ∷ 0 ∷ 0 ∷ 0 ∷ 0 ∷ 0 ∷ []
+pub first_queued : answer_bytes (run card defaults (settled (with false true 0)) (Message (Some (Frs 0x0101 3)))).reply ≡ 0 ∷ 1 ∷ 1 ∷ 0 ∷ 0 ∷ 0 ∷ 0 ∷ 0 ∷ []
 unfolding computed
 first_queued = refl
 
@@ -351,12 +352,12 @@ unfolding computed
 first-stays = refl
 
 -- and the second is dropped
-pub second_dropped : answer_bytes (run card defaults first (Message (Frs 0x0102 2))).reply ≡ 0 ∷ 2 ∷ 0 ∷ 1 ∷ 0 ∷ 0 ∷ 0 ∷ 0 ∷ []
+pub second_dropped : answer_bytes (run card defaults first (Message (Some (Frs 0x0102 2)))).reply ≡ 0 ∷ 2 ∷ 0 ∷ 1 ∷ 0 ∷ 0 ∷ 0 ∷ 0 ∷ []
 unfolding computed
 second_dropped = refl
 
 -- Received isn't set on a drop
-pub drop_not_received : (after (after first (ClearBits 1)) (Message (Frs 0x0102 2))).port.queue.received ≡ false
+pub drop_not_received : (after (after first (ClearBits 1)) (Message (Some (Frs 0x0102 2)))).port.queue.received ≡ false
 unfolding computed
 drop_not_received = refl
 
@@ -371,11 +372,11 @@ unfolding computed
 queue_register = refl
 
 -- a DRS by message sets DRS Received, and "owed" stays
-pub drs_message_owed : (after (after (link_down (with false false 1)) LinkUp) (Message (Drs 0))).port.owed ≡ true
+pub drs_message_owed : (after (after (link_down (with false false 1)) LinkUp) (Message (Some (Drs 0)))).port.owed ≡ true
 unfolding computed
 drs_message_owed = refl
 
-pub drs_message_interrupt : answer_bytes (run card defaults (after (link_down (with false false 1)) LinkUp) (Message (Drs 0))).reply ≡ 0 ∷ 4 ∷ 0 ∷ 0 ∷ 0 ∷ 0 ∷ 0 ∷ 0 ∷ []
+pub drs_message_interrupt : answer_bytes (run card defaults (after (link_down (with false false 1)) LinkUp) (Message (Some (Drs 0)))).reply ≡ 0 ∷ 4 ∷ 0 ∷ 0 ∷ 0 ∷ 0 ∷ 0 ∷ 0 ∷ []
 unfolding computed
 drs_message_interrupt = refl
 

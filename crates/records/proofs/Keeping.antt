@@ -15,8 +15,9 @@ use Rattle.times.specs.declared.Nanos.{Nanos}
 use Rattle.times.specs.Codes.{nanos_of, allowed}
 use Rattle.times.specs.Moments.{sum_of, least_of, clock_end}
 use Rattle.times.proofs.Laws.{allowed_most, sum_plain, sum_later, sum_code, least_both}
+use Rattle.std.specs.Prelude.{Option, Some, None}
 use Rattle.messages.specs.declared.Message.{Message}
-use Rattle.messages.specs.declared.Message.TheVariants.{Drs, Frs, NotReadiness}
+use Rattle.messages.specs.declared.Message.TheVariants.{Drs, Frs}
 use Rattle.bits.specs.Bytes.{Bytes, byte_at}
 use Rattle.bits.proofs.Bytes.{byte_at_lem, bytes_take, bytes_drop}
 use Rattle.messages.specs.Messages.{read_message}
@@ -136,10 +137,10 @@ module _ (setup : Setup) (good : SoundSetup setup) (defaults : List ℕ) (s : St
   port_same : PortKeeps (front_of s)
   port_same = record { clock = refl; link = refl; owed = refl; signalling = h.signalling; ring = ring; cells = refl }
 
-  message_keeps : (m : Message) → SoundMessage m → PortEffectKeeps (message_done setup.port_id m (front_of s))
+  message_keeps : (m : Option Message) → SoundMessage m → PortEffectKeeps (message_done setup.port_id m (front_of s))
   unfolding message_done drs_arrives drs_set frs_arrive
-  message_keeps NotReadiness k = tt
-  message_keeps (Drs id) k =
+  message_keeps None k = tt
+  message_keeps (Some (Drs id)) k =
       record {
         clock = refl;
         link = refl;
@@ -148,7 +149,7 @@ module _ (setup : Setup) (good : SoundSetup setup) (defaults : List ℕ) (s : St
         ring = drs_keeps setup.port_id (front_root (front_of s)) good.port_id ring;
         cells = drs-cells setup.port_id (front_root (front_of s));
       }
-  message_keeps (Frs id reason) k =
+  message_keeps (Some (Frs id reason)) k =
       record {
         clock = refl;
         link = refl;
@@ -411,9 +412,9 @@ module _ (setup : Setup) (good : SoundSetup setup) (defaults : List ℕ) (s : St
 
   -- ---- what arrives
   own_sound : (r : Record) → SoundRecord r → AllSoundFrs (of_record setup s r)
-  own_sound (MessageRecord NotReadiness) k = tt
-  own_sound (MessageRecord (Drs id)) k = drs-sound setup.port_id s.port good.port_id
-  own_sound (MessageRecord (Frs id reason)) k = (k, tt)
+  own_sound (MessageRecord None) k = tt
+  own_sound (MessageRecord (Some (Drs id))) k = drs-sound setup.port_id s.port good.port_id
+  own_sound (MessageRecord (Some (Frs id reason))) k = (k, tt)
   own_sound (Advance by) k = tt
   own_sound (Read q) k = tt
   own_sound (Write q value) k = tt

@@ -4,8 +4,9 @@ use mathlib.Core.Path.{◌≡◌, refl, ◌∙◌}
 use mathlib.Core.Bool.{true}
 use mathlib.Core.List.{List}
 use Rattle.messages.specs.Messages.{frs_allowed}
+use Rattle.std.specs.Prelude.{Option, Some, None}
 use Rattle.messages.specs.declared.Message.{Message}
-use Rattle.messages.specs.declared.Message.TheVariants.{Drs, Frs, NotReadiness}
+use Rattle.messages.specs.declared.Message.TheVariants.{Drs, Frs}
 use Rattle.readiness.specs.declared.Setup.{Setup}
 use Rattle.records.specs.declared.Record.{Record}
 use Rattle.records.specs.declared.Record.TheVariants.{Advance, Read, Write, Message as MessageRecord, LinkUp, LinkDown, ColdReset, ReadQueue, RemoveOldest, ClearBits, Control, HardwareSet, ReadBits, NoKind}
@@ -16,10 +17,10 @@ use Rattle.records.specs.StaysSound.{Keeps}
 -- ---- what is asked
 
 -- a message that fits a queue cell: an ID of 16 bits and a reason that an FRS may have
-abbrev pub SoundMessage : Message → Type 0
-SoundMessage NotReadiness = Unit {0}
-SoundMessage (Drs id) = Unit {0}
-SoundMessage (Frs id reason) = (id < 65536) × (frs_allowed reason ≡ true)
+abbrev pub SoundMessage : Option Message → Type 0
+SoundMessage None = Unit {0}
+SoundMessage (Some (Drs id)) = Unit {0}
+SoundMessage (Some (Frs id reason)) = (id < 65536) × (frs_allowed reason ≡ true)
 
 abbrev pub SoundRecord : Record → Type 0
 SoundRecord (MessageRecord m) = SoundMessage m

@@ -9,8 +9,9 @@ use lib.Seq.{set-get_or}
 use Rattle.bits.proofs.Choices.{either_way}
 use Rattle.times.specs.declared.Nanos.{Nanos}
 use Rattle.times.specs.Moments.{sum_of, clock_end}
+use Rattle.std.specs.Prelude.{Option, Some, None}
 use Rattle.messages.specs.declared.Message.{Message}
-use Rattle.messages.specs.declared.Message.TheVariants.{Drs, Frs, NotReadiness}
+use Rattle.messages.specs.declared.Message.TheVariants.{Drs, Frs}
 use Rattle.registers.specs.declared.Kind.{Kind}
 use Rattle.registers.specs.Rows.{flr_capability_word, starts_flr}
 use Rattle.registers.specs.Words.{read_word, write_word, hardware_set, starts_d3hot}
@@ -82,9 +83,9 @@ pub record Every (P : Record → State → Tally → ℕ → Type 0) (setup : Se
   pub read : (q : Request) → is_access (routed setup s true q) ≡ true → P (Read q) s no_tally (word_read setup s q)
   pub write : (q : Request) (value : ℕ) → is_access (routed setup s false q) ≡ true → P (Write q value) (put_back s q.slot (seat_written setup defaults s q value)) no_tally 0
   pub drs : (id : ℕ) → s.port.link ≡ true
-      → (let x = drs_arrives setup.port_id (root_of s no_tally) in P (MessageRecord (Drs id)) (with_root x s) x.tally 0)
+      → (let x = drs_arrives setup.port_id (root_of s no_tally) in P (MessageRecord (Some (Drs id))) (with_root x s) x.tally 0)
   pub frs : (id reason : ℕ) → s.port.link ≡ true
-      → (let x = frs_arrive (record { id = id; reason = reason } ∷ []) (root_of s no_tally) in P (MessageRecord (Frs id reason)) (with_root x s) x.tally 0)
+      → (let x = frs_arrive (record { id = id; reason = reason } ∷ []) (root_of s no_tally) in P (MessageRecord (Some (Frs id reason))) (with_root x s) x.tally 0)
   pub link_up : s.port.link ≡ false → P LinkUp (linked_up setup s) no_tally 0
   pub link_down : s.port.link ≡ true → P LinkDown (linked_down setup defaults s) no_tally 0
   pub cold_reset : P ColdReset (cold_started setup defaults s) no_tally 0
@@ -137,17 +138,17 @@ module _ (P : Record → State → Tally → ℕ → Type 0) (setup : Setup) (de
       (λ f. either_way Q (not (is_ready (seat_of s slot).status)) _ _ (λ g. tt)
       (λ g. subst (λ (t : State). P (HardwareSet slot word mask) t no_tally 0) (same_status s slot (word_set setup s slot word mask).live) (h.hardware_set slot word mask f)))))
 
-  message_leaves : (m : Message) → Leaves (P (MessageRecord m)) (effect setup defaults s (MessageRecord m))
+  message_leaves : (m : Option Message) → Leaves (P (MessageRecord m)) (effect setup defaults s (MessageRecord m))
   unfolding effect message_effect message_done
   message_leaves m =
       at_port_lem (P (MessageRecord m)) s (message_effect setup.port_id m (front_of s))
       (either_way (Leaves (λ (p : Front) (tally : Tally) (d : ℕ). P (MessageRecord m) (state p.dev s.statuses s.live p.cells) tally d)) s.port.link _ _ (by m) (λ e. tt))
     where
-      by : (m : Message) → s.port.link ≡ true
+      by : (m : Option Message) → s.port.link ≡ true
           → Leaves (λ (p : Front) (tally : Tally) (d : ℕ). P (MessageRecord m) (state p.dev s.statuses s.live p.cells) tally d) (message_done setup.port_id m (front_of s))
-      by NotReadiness e = tt
-      by (Drs id) e = h.drs id e
-      by (Frs id reason) e = h.frs id reason e
+      by None e = tt
+      by (Some (Drs id)) e = h.drs id e
+      by (Some (Frs id reason)) e = h.frs id reason e
 
   -- so P holds of what every record leaves that is done
   pub every : (r : Record) → Leaves (P r) (effect setup defaults s r)

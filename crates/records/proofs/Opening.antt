@@ -8,8 +8,9 @@ use lib.Dec.{eqb}
 use lib.ListN.{length, length-set}
 use Rattle.bits.proofs.Choices.{either_way}
 use Rattle.bits.specs.Bits.{one}
+use Rattle.std.specs.Prelude.{Option, Some, None}
 use Rattle.messages.specs.declared.Message.{Message}
-use Rattle.messages.specs.declared.Message.TheVariants.{Drs, Frs, NotReadiness}
+use Rattle.messages.specs.declared.Message.TheVariants.{Drs, Frs}
 use Rattle.frs_queue.specs.declared.Frs as queue_frs
 use Rattle.frs_queue.specs.declared.Tally.{Tally}
 use Rattle.frs_queue.specs.Queue.{no_tally, arrive_all, removed, messages_of}
@@ -50,10 +51,10 @@ found_by s ReadBits = s.port
 found_by s NoKind = s.port
 
 -- a DRS comes as a message
-abbrev drs_message : Message → Bool
-drs_message NotReadiness = false
-drs_message (Drs id) = true
-drs_message (Frs id reason) = false
+abbrev drs_message : Option Message → Bool
+drs_message None = false
+drs_message (Some (Drs id)) = true
+drs_message (Some (Frs id reason)) = false
 
 abbrev pub is_drs : Record → Bool
 is_drs (Advance by) = false
@@ -139,11 +140,11 @@ unfolding frs_of_drs
 own_most setup s (Advance by) = omega arith
 own_most setup s (Read q) = omega arith
 own_most setup s (Write q value) = omega arith
-own_most setup s (MessageRecord NotReadiness) = omega arith
-own_most setup s (MessageRecord (Drs id)) =
+own_most setup s (MessageRecord None) = omega arith
+own_most setup s (MessageRecord (Some (Drs id))) =
     either_way (λ (l : List queue_frs.Frs). length l ≤ 1) (not s.port.drs_received && eqb s.port.control.signalling 2) (record { id = setup.port_id; reason = 1 } ∷ []) []
     (λ e. omega arith) (λ e. omega arith)
-own_most setup s (MessageRecord (Frs id reason)) = omega arith
+own_most setup s (MessageRecord (Some (Frs id reason))) = omega arith
 own_most setup s LinkUp = omega arith
 own_most setup s LinkDown = omega arith
 own_most setup s ColdReset = omega arith

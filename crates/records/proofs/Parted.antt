@@ -10,8 +10,9 @@ use lib.Seq.{set-get_or}
 use borrow.Author.Tests.{ltb-true, not-false}
 use Rattle.bits.proofs.Choices.{either_way, when_true}
 use Rattle.times.specs.declared.Nanos.{Nanos}
+use Rattle.std.specs.Prelude.{Option, Some, None}
 use Rattle.messages.specs.declared.Message.{Message}
-use Rattle.messages.specs.declared.Message.TheVariants.{Drs, Frs, NotReadiness}
+use Rattle.messages.specs.declared.Message.TheVariants.{Drs, Frs}
 use Rattle.registers.specs.declared.Kind.{Kind}
 use Rattle.frs_queue.specs.Queue.{no_tally}
 use Rattle.readiness.specs.declared.Cause.{Cause}
@@ -192,11 +193,11 @@ abbrev pub PortDoes : Front → Effect Front → Type 0
 PortDoes p (refused c v) = Unit {0}
 PortDoes p (does y tally v) = (y.dev.clock ≡ p.dev.clock) × (y.dev.owed ≡ p.dev.owed)
 
-message_does : (port_id : ℕ) (m : Message) (p : Front) → PortDoes p (message_done port_id m p)
+message_does : (port_id : ℕ) (m : Option Message) (p : Front) → PortDoes p (message_done port_id m p)
 unfolding message_done drs_arrives drs_set frs_arrive
-message_does port_id NotReadiness p = tt
-message_does port_id (Drs id) p = (refl, refl)
-message_does port_id (Frs id reason) p = (refl, refl)
+message_does port_id None p = tt
+message_does port_id (Some (Drs id)) p = (refl, refl)
+message_does port_id (Some (Frs id reason)) p = (refl, refl)
 
 pub port_does : (port_id : ℕ) (r : Record) (p : Front) → PortDoes p (port_effect port_id r p)
 unfolding port_effect message_effect cleared_dev control_effect

@@ -16,6 +16,7 @@ use Rattle.readiness.specs.Status.{ready, all_ready}
 use Rattle.readiness.specs.Root.{frs_arrive, frs_of_drs, drs_set, drs_arrives}
 use Rattle.readiness.specs.Events.{Event, due, frs_of}
 use Rattle.readiness.specs.Settle.{Scene, happens, happen_all, last_of_moment, moment_ends, drs_due, tells, settles, frs_told, frs_ending, frames_of, frs_sent}
+use Rattle.std.specs.Prelude.{Some}
 use Rattle.messages.specs.declared.Message.TheVariants.{Drs}
 use Rattle.records.specs.declared.Completion.TheVariants as completion
 use Rattle.records.specs.declared.Record.TheVariants.{Message as MessageRecord}
@@ -186,19 +187,19 @@ told_owed setup x =
     ∙ ap (λ (l : List Status). x.root.dev.owed && not (all_ready setup l)) (due-ready x.root.dev.clock x.statuses)
 
 -- A DRS that comes as a message sets DRS Received.
-pub drs-sets : (setup : Setup) (defaults : List ℕ) (s : State) (id : ℕ) → s.port.link ≡ true → (run setup defaults s (MessageRecord (Drs id))).after.port.drs_received ≡ true
+pub drs-sets : (setup : Setup) (defaults : List ℕ) (s : State) (id : ℕ) → s.port.link ≡ true → (run setup defaults s (MessageRecord (Some (Drs id)))).after.port.drs_received ≡ true
 unfolding run effect message_effect message_done answered drs_arrives drs_set frs_arrive
 drs-sets setup defaults s id e =
     let x = drs_arrives setup.port_id (root_of s no_tally) in
-    ap (λ (b : Bool). (answered setup s (at_port s (cond b (message_done setup.port_id (Drs id) (front_of s)) (refused completion.WrongState 0)))).after.port.drs_received) e
+    ap (λ (b : Bool). (answered setup s (at_port s (cond b (message_done setup.port_id (Some (Drs id)) (front_of s)) (refused completion.WrongState 0)))).after.port.drs_received) e
     ∙ told-drs setup (scene_of (with_root x s) x.tally)
 
 -- It leaves "owed", in a sound state.
 pub drs_owed_lem : (setup : Setup) (defaults : List ℕ) (s : State) → Sound setup s → Fitting setup defaults s → (id : ℕ) → s.port.link ≡ true
-    → (run setup defaults s (MessageRecord (Drs id))).after.port.owed ≡ s.port.owed
+    → (run setup defaults s (MessageRecord (Some (Drs id)))).after.port.owed ≡ s.port.owed
 unfolding run effect message_effect message_done answered drs_arrives drs_set frs_arrive
 drs_owed_lem setup defaults s sound fits id e =
     let x = drs_arrives setup.port_id (root_of s no_tally) in
     let rests = sound_rests setup defaults s sound fits in
-    ap (λ (b : Bool). (answered setup s (at_port s (cond b (message_done setup.port_id (Drs id) (front_of s)) (refused completion.WrongState 0)))).after.port.owed) e
+    ap (λ (b : Bool). (answered setup s (at_port s (cond b (message_done setup.port_id (Some (Drs id)) (front_of s)) (refused completion.WrongState 0)))).after.port.owed) e
     ∙ ap (λ (y : Scene). y.root.dev.owed) (settle_rest setup (scene_of (with_root x s) x.tally) rests.due rests.drs)

@@ -10,8 +10,9 @@ use borrow.Author.Tests.{ltb-true, ltb-false, lt-ltb, le-ltb, eqb-true, eqb-fals
 use Rattle.bits.proofs.Tests.{untrue, split}
 use Rattle.times.specs.declared.Nanos.{Nanos}
 use Rattle.times.specs.Moments.{clock_end}
+use Rattle.std.specs.Prelude.{Option, Some, None}
 use Rattle.messages.specs.declared.Message.{Message}
-use Rattle.messages.specs.declared.Message.TheVariants.{Drs, Frs, NotReadiness}
+use Rattle.messages.specs.declared.Message.TheVariants.{Drs, Frs}
 use Rattle.frs_queue.specs.Queue.{no_tally}
 use Rattle.readiness.specs.declared.Phase.TheVariants.{Ready}
 use Rattle.readiness.specs.declared.Setup.{Setup}
@@ -89,50 +90,50 @@ module _ (setup : Setup) (defaults : List ℕ) (s : State) (slot word mask : ℕ
       }
 
 -- ---- kind 04: message
-drs_is : (id : ℕ) → Drs id ≢ NotReadiness
+drs_is : (id : ℕ) → Some (Drs id) ≢ None
 drs_is id q = let z : ◌≡◌ {A = ℕ} 0 1 = cc in omega arith
 
-frs_is : (id reason : ℕ) → Frs id reason ≢ NotReadiness
+frs_is : (id reason : ℕ) → Some (Frs id reason) ≢ None
 frs_is id reason q = let z : ◌≡◌ {A = ℕ} 0 1 = cc in omega arith
 
 module _ (setup : Setup) (defaults : List ℕ) (s : State) where
-  abbrev message : Message → ℕ
+  abbrev message : Option Message → ℕ
   message m = status_of setup defaults s (kind.Message m)
 
-  by_link : (m : Message) (b : Bool) → s.port.link ≡ b
+  by_link : (m : Option Message) (b : Bool) → s.port.link ≡ b
       → message m ≡ completion_number (answered setup s (at_port s (cond b (message_done setup.port_id m (front_of s)) (refused completion.WrongState 0)))).reply.completion
   unfolding run effect message_effect
   by_link m b e = ap (λ (b : Bool). completion_number (answered setup s (at_port s (cond b (message_done setup.port_id m (front_of s)) (refused completion.WrongState 0)))).reply.completion) e
 
-  message_23 : (m : Message) → s.port.link ≡ false → message m ≡ 23
+  message_23 : (m : Option Message) → s.port.link ≡ false → message m ≡ 23
   unfolding answered
   message_23 m e = by_link m false e
 
-  message_19 : (m : Message) → (s.port.link ≡ true) × (m ≡ NotReadiness) → message m ≡ 19
+  message_19 : (m : Option Message) → (s.port.link ≡ true) × (m ≡ None) → message m ≡ 19
   unfolding answered message_done
-  message_19 m h = ap message h.1 ∙ by_link NotReadiness true h.0
+  message_19 m h = ap message h.1 ∙ by_link None true h.0
 
-  message_0 : (m : Message) → (s.port.link ≡ true) × (m ≢ NotReadiness) → message m ≡ 0
+  message_0 : (m : Option Message) → (s.port.link ≡ true) × (m ≢ None) → message m ≡ 0
   unfolding answered message_done
-  message_0 NotReadiness h = absurd (h.1 refl)
-  message_0 (Drs id) h = by_link (Drs id) true h.0
-  message_0 (Frs id reason) h = by_link (Frs id reason) true h.0
+  message_0 None h = absurd (h.1 refl)
+  message_0 (Some (Drs id)) h = by_link (Some (Drs id)) true h.0
+  message_0 (Some (Frs id reason)) h = by_link (Some (Frs id reason)) true h.0
 
-  abbrev MessageBecause : Message → ℕ → Type 0
+  abbrev MessageBecause : Option Message → ℕ → Type 0
   MessageBecause m n =
       cond (eqb n 23) (s.port.link ≡ false)
-      (cond (eqb n 19) ((s.port.link ≡ true) × (m ≡ NotReadiness))
-      (cond (eqb n 0) ((s.port.link ≡ true) × (m ≢ NotReadiness)) ⊥))
+      (cond (eqb n 19) ((s.port.link ≡ true) × (m ≡ None))
+      (cond (eqb n 0) ((s.port.link ≡ true) × (m ≢ None)) ⊥))
 
-  message_up : (m : Message) → s.port.link ≡ true → Reason (0 ∷ 19 ∷ 23 ∷ []) (MessageBecause m) (message m)
-  message_up NotReadiness e = record { number = 19; why = (e, refl); listed = tt; given = message_19 NotReadiness (e, refl) }
-  message_up (Drs id) e = record { number = 0; why = (e, drs_is id); listed = tt; given = message_0 (Drs id) (e, drs_is id) }
-  message_up (Frs id reason) e = record { number = 0; why = (e, frs_is id reason); listed = tt; given = message_0 (Frs id reason) (e, frs_is id reason) }
+  message_up : (m : Option Message) → s.port.link ≡ true → Reason (0 ∷ 19 ∷ 23 ∷ []) (MessageBecause m) (message m)
+  message_up None e = record { number = 19; why = (e, refl); listed = tt; given = message_19 None (e, refl) }
+  message_up (Some (Drs id)) e = record { number = 0; why = (e, drs_is id); listed = tt; given = message_0 (Some (Drs id)) (e, drs_is id) }
+  message_up (Some (Frs id reason)) e = record { number = 0; why = (e, frs_is id reason); listed = tt; given = message_0 (Some (Frs id reason)) (e, frs_is id reason) }
 
-  message_why : (m : Message) → Reason (0 ∷ 19 ∷ 23 ∷ []) (MessageBecause m) (message m)
+  message_why : (m : Option Message) → Reason (0 ∷ 19 ∷ 23 ∷ []) (MessageBecause m) (message m)
   message_why m = split s.port.link (message_up m) (λ e. record { number = 23; why = e; listed = tt; given = message_23 m e })
 
-  message_statuses : (m : Message) → MessageStatuses setup defaults s m
+  message_statuses : (m : Option Message) → MessageStatuses setup defaults s m
   message_statuses m =
       record {
         link_down = (because (message_why m) 23, message_23 m);

@@ -6,6 +6,7 @@ use mathlib.Core.List.{List, [], ◌∷◌}
 use mathlib.Core.Path.{◌≡◌, refl, sym, ap, subst, ◌∙◌}
 use lib.Dec.{ltb}
 use Rattle.bits.proofs.Tests.{split}
+use Rattle.std.specs.Prelude.{Option, Some}
 use Rattle.messages.specs.declared.Message.{Message}
 use Rattle.messages.specs.declared.Message.TheVariants.{Drs, Frs}
 use Rattle.frs_queue.specs.declared.Frs as queue_frs
@@ -54,10 +55,10 @@ drs-stays port_id x = record { clock = refl; link = refl; owed = refl; control =
 -- ---- 02, 04, 08, 0C, 0D
 
 -- a message leaves the port but for what arrives, and an FRS leaves DRS Received
-record MessageStays (m : Message) (s t : State) : Type 0 where
+record MessageStays (m : Option Message) (s t : State) : Type 0 where
   port : PortStays s.port t.port
   card : CardStays s t
-  drs : (id reason : ℕ) → m ≡ Frs id reason → t.port.drs_received ≡ s.port.drs_received
+  drs : (id reason : ℕ) → m ≡ Some (Frs id reason) → t.port.drs_received ≡ s.port.drs_received
 
 -- what such a record leaves
 abbrev Stays : Record → (s t : State) → Type 0
@@ -93,7 +94,7 @@ stays_same (kind.HardwareSet slot word mask) s = record { port = refl; statuses 
 stays_same kind.ReadBits s = refl
 stays_same kind.NoKind s = tt
 
-no_frs : {P : Type 0} {id other reason : ℕ} → Drs id ≡ Frs other reason → P
+no_frs : {P : Type 0} {id other reason : ℕ} → Some (Drs id) ≡ Some (Frs other reason) → P
 no_frs e = let z : ◌≡◌ {A = ℕ} 0 1 = cc in absurd (omega arith)
 
 each-stays : (setup : Setup) (defaults : List ℕ) (s : State) → Every (λ r t tally d. Stays r s t) setup defaults s
@@ -145,14 +146,14 @@ module _ (setup : Setup) (defaults : List ℕ) (s : State) (sound : Sound setup 
   no_change kind.NoKind e = absurd (false≢true e)
 
   -- 04 leaves statuses, registers, and the port but for what arrives.
-  pub message_port_lem : (m : Message) → PortStays s.port (run setup defaults s (kind.Message m)).after.port
+  pub message_port_lem : (m : Option Message) → PortStays s.port (run setup defaults s (kind.Message m)).after.port
   message_port_lem m = (stays (kind.Message m) refl).port
 
-  pub message_card_lem : (m : Message) → CardStays s (run setup defaults s (kind.Message m)).after
+  pub message_card_lem : (m : Option Message) → CardStays s (run setup defaults s (kind.Message m)).after
   message_card_lem m = (stays (kind.Message m) refl).card
 
-  pub frs-drs : (id reason : ℕ) → (run setup defaults s (kind.Message (Frs id reason))).after.port.drs_received ≡ s.port.drs_received
-  frs-drs id reason = (stays (kind.Message (Frs id reason)) refl).drs id reason refl
+  pub frs-drs : (id reason : ℕ) → (run setup defaults s (kind.Message (Some (Frs id reason)))).after.port.drs_received ≡ s.port.drs_received
+  frs-drs id reason = (stays (kind.Message (Some (Frs id reason))) refl).drs id reason refl
 
   -- 0C leaves all but the live registers.
   pub hardware_alone_lem : (slot word mask : ℕ) → LiveAlone s (run setup defaults s (kind.HardwareSet slot word mask)).after

@@ -1,7 +1,7 @@
 -- The FRS messages that arrive in one record, by the rules.
-use Rattle.std.specs.Prelude.{ℕ, List, [], ◌∷◌, ◌++◌}
+use Rattle.std.specs.Prelude.{ℕ, List, [], ◌∷◌, ◌++◌, Option, Some, None}
 use Rattle.messages.specs.declared.Message.{Message}
-use Rattle.messages.specs.declared.Message.TheVariants.{Drs, Frs, NotReadiness}
+use Rattle.messages.specs.declared.Message.TheVariants.{Drs, Frs}
 use Rattle.frs_queue.specs.declared.Frs as queue_frs
 use Rattle.frs_queue.specs.Queue.{no_tally}
 use Rattle.readiness.specs.declared.Setup.{Setup}
@@ -14,10 +14,10 @@ use Rattle.records.specs.Answer.{Effect, refused, does}
 use Rattle.records.specs.Run.{effect}
 
 -- an FRS that comes as a message; with a DRS, the port's own if it is signalled so
-abbrev pub of_message : Setup → State → Message → List queue_frs.Frs
-of_message setup s NotReadiness = []
-of_message setup s (Drs id) = frs_of_drs setup.port_id s.port
-of_message setup s (Frs id reason) = record { id = id; reason = reason } ∷ []
+abbrev pub of_message : Setup → State → Option Message → List queue_frs.Frs
+of_message setup s None = []
+of_message setup s (Some (Drs id)) = frs_of_drs setup.port_id s.port
+of_message setup s (Some (Frs id reason)) = record { id = id; reason = reason } ∷ []
 
 abbrev pub of_record : Setup → State → Record → List queue_frs.Frs
 of_record setup s (Advance by) = []

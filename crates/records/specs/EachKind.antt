@@ -1,5 +1,5 @@
 -- WHAT EACH KIND OF RECORD DOES (01, "Trace records", "Register attributes", "Readiness"), clause by clause.
-use Rattle.std.specs.Prelude.{ℕ, ◌+◌, ◌-◌, ◌/◌, ◌%◌, ◌≤◌, ◌<◌, min, Bool, true, false, not, ◌&&◌, ◌||◌, cond, List, ◌≢◌, ◌≡◌, eqb, leb, length, set, drop}
+use Rattle.std.specs.Prelude.{ℕ, ◌+◌, ◌-◌, ◌/◌, ◌%◌, ◌≤◌, ◌<◌, min, Bool, true, false, not, ◌&&◌, ◌||◌, cond, List, ◌≢◌, ◌≡◌, eqb, leb, length, set, drop, Option, Some}
 use Rattle.bits.specs.Bits.{bit}
 use Rattle.times.specs.declared.Nanos.{Nanos}
 use Rattle.times.specs.Codes.{nanos_of}
@@ -300,9 +300,9 @@ pub record EachKind (setup : Setup) (defaults : List ℕ) (s : State) : Type 0 w
   pub other_slots : (r : Record) (addressed slot : ℕ) → Sound setup s → Addresses r addressed → slot < setup.slots → slot ≢ addressed
       → SameSlot s (run setup defaults s r).after slot
   -- 04: a DRS sets DRS Received; "owed" stays, in a sound state
-  pub drs : (id : ℕ) → s.port.link ≡ true → (run setup defaults s (kind.Message (Drs id))).after.port.drs_received ≡ true
+  pub drs : (id : ℕ) → s.port.link ≡ true → (run setup defaults s (kind.Message (Some (Drs id)))).after.port.drs_received ≡ true
   pub drs_owed : Sound setup s → Fitting setup defaults s → (id : ℕ) → s.port.link ≡ true
-      → (run setup defaults s (kind.Message (Drs id))).after.port.owed ≡ s.port.owed
+      → (run setup defaults s (kind.Message (Some (Drs id)))).after.port.owed ≡ s.port.owed
   -- 05, before slots become Ready; each slot's status and the port once it is answered
   pub link_up : s.port.link ≡ false → s.port.clock.0 ≤ clock_end → setup.slots ≤ length s.statuses
       → Does (LinkedUp setup s) (effect setup defaults s kind.LinkUp)
@@ -326,10 +326,10 @@ pub record EachKind (setup : Setup) (defaults : List ℕ) (s : State) : Type 0 w
   pub write_drs : Sound setup s → Fitting setup defaults s → (q : Request) (value : ℕ)
       → (run setup defaults s (kind.Write q value)).after.port.drs_received ≡ s.port.drs_received
   -- 04: statuses, registers, and the port but for what arrives; an FRS leaves DRS Received
-  pub message_port : Sound setup s → Fitting setup defaults s → (m : Message) → PortStays s.port (run setup defaults s (kind.Message m)).after.port
-  pub message_card : Sound setup s → Fitting setup defaults s → (m : Message) → CardStays s (run setup defaults s (kind.Message m)).after
+  pub message_port : Sound setup s → Fitting setup defaults s → (m : Option Message) → PortStays s.port (run setup defaults s (kind.Message m)).after.port
+  pub message_card : Sound setup s → Fitting setup defaults s → (m : Option Message) → CardStays s (run setup defaults s (kind.Message m)).after
   pub frs_drs : Sound setup s → Fitting setup defaults s → (id reason : ℕ)
-      → (run setup defaults s (kind.Message (Frs id reason))).after.port.drs_received ≡ s.port.drs_received
+      → (run setup defaults s (kind.Message (Some (Frs id reason)))).after.port.drs_received ≡ s.port.drs_received
   -- 0C: all but the live registers
   pub hardware_alone : Sound setup s → Fitting setup defaults s → (slot word mask : ℕ) → LiveAlone s (run setup defaults s (kind.HardwareSet slot word mask)).after
   -- 06, 07, 09, 0A, 0B once they are answered, in a sound state: no slot becomes Ready in them

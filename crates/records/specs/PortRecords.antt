@@ -1,8 +1,8 @@
 -- Records that touch the root port alone: message, queue register, remove oldest, status bits, control (01, "Trace records").
-use Rattle.std.specs.Prelude.{ℕ, ◌+◌, ◌*◌, ◌/◌, ◌%◌, not, ◌&&◌, ◌||◌, cond, List, [], ◌∷◌, eqb, ltb, length}
+use Rattle.std.specs.Prelude.{ℕ, ◌+◌, ◌*◌, ◌/◌, ◌%◌, not, ◌&&◌, ◌||◌, cond, List, [], ◌∷◌, eqb, ltb, length, Option, Some, None}
 use Rattle.bits.specs.Bits.{bit, one}
 use Rattle.messages.specs.declared.Message.{Message}
-use Rattle.messages.specs.declared.Message.TheVariants.{Drs, Frs, NotReadiness}
+use Rattle.messages.specs.declared.Message.TheVariants.{Drs, Frs}
 use Rattle.frs_queue.specs.declared.Queue.{Queue}
 use Rattle.frs_queue.specs.Queue.{no_tally, removed, register_of}
 use Rattle.readiness.specs.declared.Control.{Control}
@@ -27,13 +27,13 @@ abbrev pub received : Root → Effect Front
 received x = does (front x.dev x.cells) x.tally 0
 
 -- a message: an FRS arrives, a DRS sets DRS Received as above, "owed" stays; else no readiness message
-unfoldable pub message_done : (port_id : ℕ) → Message → Front → Effect Front
-message_done port_id NotReadiness p = refused completion.NoReadinessMessage 0
-message_done port_id (Drs id) p = received (drs_arrives port_id (front_root p))
-message_done port_id (Frs id reason) p = received (frs_arrive (record { id = id; reason = reason } ∷ []) (front_root p))
+unfoldable pub message_done : (port_id : ℕ) → Option Message → Front → Effect Front
+message_done port_id None p = refused completion.NoReadinessMessage 0
+message_done port_id (Some (Drs id)) p = received (drs_arrives port_id (front_root p))
+message_done port_id (Some (Frs id reason)) p = received (frs_arrive (record { id = id; reason = reason } ∷ []) (front_root p))
 
 -- order: 23 with the link down, then 19
-unfoldable pub message_effect : (port_id : ℕ) → Message → Front → Effect Front
+unfoldable pub message_effect : (port_id : ℕ) → Option Message → Front → Effect Front
 message_effect port_id m p = cond p.dev.link (message_done port_id m p) (refused completion.WrongState 0)
 
 -- read queue register

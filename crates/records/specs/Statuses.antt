@@ -1,10 +1,9 @@
 -- STATUSES IN AN ANSWER (01, "Numbers given for no"): which each kind of record can give, and each exactly under its condition.
-use Rattle.std.specs.Prelude.{ℕ, ◌+◌, ◌*◌, ◌/◌, ◌%◌, ◌≤◌, ◌<◌, Bool, true, false, ◌||◌, List, [], ◌∷◌, ◌≢◌, ◌⊎◌, ◌↔◌, ◌≡◌, T, eqb}
+use Rattle.std.specs.Prelude.{ℕ, ◌+◌, ◌*◌, ◌/◌, ◌%◌, ◌≤◌, ◌<◌, Bool, true, false, ◌||◌, List, [], ◌∷◌, ◌≢◌, ◌⊎◌, ◌↔◌, ◌≡◌, T, eqb, Option, None}
 use Rattle.bits.specs.Bits.{bit, one}
 use Rattle.times.specs.declared.Nanos.{Nanos}
 use Rattle.times.specs.Moments.{clock_end}
 use Rattle.messages.specs.declared.Message.{Message}
-use Rattle.messages.specs.declared.Message.TheVariants.{NotReadiness}
 use Rattle.frs_queue.specs.Queue.{no_tally}
 use Rattle.readiness.specs.declared.Cause.{Cause}
 use Rattle.readiness.specs.declared.Cause.TheVariants.{Flr}
@@ -109,13 +108,13 @@ pub record HardwareStatuses (setup : Setup) (defaults : List ℕ) (s : State) (s
   pub done : (status_of setup defaults s (kind.HardwareSet slot word mask) ≡ 0) ↔ ((slot < setup.slots) × (word ≤ 63) × (phase_at s slot ≡ Ready))
 
 -- ---- kind 04; order: 23, 19
-pub record MessageStatuses (setup : Setup) (defaults : List ℕ) (s : State) (m : Message) : Type 0 where
+pub record MessageStatuses (setup : Setup) (defaults : List ℕ) (s : State) (m : Option Message) : Type 0 where
   -- 23: a message with the link down
   pub link_down : (status_of setup defaults s (kind.Message m) ≡ 23) ↔ (s.port.link ≡ false)
   -- 19: no readiness message
-  pub no_message : (status_of setup defaults s (kind.Message m) ≡ 19) ↔ ((s.port.link ≡ true) × (m ≡ NotReadiness))
+  pub no_message : (status_of setup defaults s (kind.Message m) ≡ 19) ↔ ((s.port.link ≡ true) × (m ≡ None))
   -- 0: done
-  pub done : (status_of setup defaults s (kind.Message m) ≡ 0) ↔ ((s.port.link ≡ true) × (m ≢ NotReadiness))
+  pub done : (status_of setup defaults s (kind.Message m) ≡ 0) ↔ ((s.port.link ≡ true) × (m ≢ None))
 
 -- ---- kind 01
 pub record AdvanceStatuses (setup : Setup) (defaults : List ℕ) (s : State) (by : Nanos) : Type 0 where
@@ -168,7 +167,7 @@ pub record Statuses (setup : Setup) (defaults : List ℕ) (s : State) : Type 0 w
   -- each number exactly under its condition
   pub requests : (is_read : Bool) (q : Request) (value : ℕ) → RequestStatuses setup defaults s is_read q value
   pub hardware : (slot word mask : ℕ) → HardwareStatuses setup defaults s slot word mask
-  pub messages : (m : Message) → MessageStatuses setup defaults s m
+  pub messages : (m : Option Message) → MessageStatuses setup defaults s m
   pub advance : (by : Nanos) → AdvanceStatuses setup defaults s by
   pub link : LinkStatuses setup defaults s
   pub control : (b : ℕ) → ControlStatuses setup defaults s b

@@ -6,7 +6,7 @@ ghost use Rattle.records.specs.Blank.{blank_port};
 
 use frs_queue::{Queue, Tally};
 use messages::Message;
-use readiness::{Cause, Dev, Moment, Setup, Slot, Status};
+use readiness::{Cause, Dev, Setup, Slot, Status};
 use times::Nanos;
 
 // Whom a configuration request addresses: the slot, the word and the byte enables.
@@ -26,8 +26,8 @@ pub enum Record {
     Read(Request),
     // 03: configuration write, and its data.
     Write(Request, u32),
-    // 04: message.
-    Message(Message),
+    // 04: message; none, if it is no readiness message.
+    Message(Option<Message>),
     // 05, 06, 07.
     LinkUp,
     LinkDown,
@@ -43,33 +43,33 @@ pub enum Record {
     HardwareSet(usize, usize, u32),
     // 0D: read the three status bits.
     ReadBits,
+    // Kept: `records/Device.device` and the theorem of `OnBytes` run what `decode` makes of any bytes.
     // No such kind: feed runs none of these.
     NoKind,
 }
 
-// How a record is answered.
+// How a record is answered, with its status.
 #[derive(Clone, Copy)]
 pub enum Completion {
-    // 0
-    Done,
-    // 16: CRS shown.
-    CrsShown,
-    // 17: CRS, to be re-issued.
-    CrsRetry,
-    // 18: Unsupported.
-    Unsupported,
-    // 19: no readiness message.
-    NoReadinessMessage,
-    // 20: no such slot.
-    NoSlot,
-    // 21: word above 63.
-    NoWord,
-    // 22: clock would pass 10^15.
-    ClockEnd,
-    // 23: not as the link or the slot stands.
-    WrongState,
-    // 24: enables above 15, a control byte above 15, or signalling 3.
-    BadValue,
+    Done = 0,
+    // CRS shown.
+    CrsShown = 16,
+    // CRS, to be re-issued.
+    CrsRetry = 17,
+    // Unsupported.
+    Unsupported = 18,
+    // No readiness message.
+    NoReadinessMessage = 19,
+    // No such slot.
+    NoSlot = 20,
+    // Word above 63.
+    NoWord = 21,
+    // Clock would pass 10^15.
+    ClockEnd = 22,
+    // Not as the link or the slot stands.
+    WrongState = 23,
+    // Enables above 15, a control byte above 15, or signalling 3.
+    BadValue = 24,
 }
 
 // An answer: the completion, what the record brought, and the data.
@@ -117,7 +117,7 @@ pub struct SlotDone {
     pub dev: Dev,
     pub status: Status,
     pub reply: Reply,
-    pub made: Moment,
+    pub made: Option<Nanos>,
 }
 
 // What a record leaves that touches no slot.
@@ -125,14 +125,6 @@ pub struct SlotDone {
 pub struct PortDone {
     pub dev: Dev,
     pub reply: Reply,
-}
-
-// What a record that touches every slot does before slots become Ready: it is answered with this completion and changes nothing, or it is
-// done and leaves this device.
-#[derive(Clone, Copy)]
-pub enum Started {
-    Refused(Completion),
-    Does(Dev),
 }
 
 // What an FRS leaves that arrives by a message.

@@ -5,16 +5,17 @@ use mathlib.Core.List.{List, [], ◌∷◌}
 use Prim.Native.Nat.{ℕ, ◌+◌, ◌*◌, ◌/◌, ◌%◌, ◌<◌, ◌≤◌}
 use native.Mathlib.Omega.{arith}
 use lib.Dec.{T, eqb, eqb→eq, ltb, ltb→lt}
+use lib.Bits.{bit_and}
 use lib.ListN.{get_or}
 use borrow.Author.Tests.{ne_eqb}
 use Rattle.bits.specs.Bits.{bit}
-use Rattle.bits.proofs.Bits.{bit_word, word_ext}
+use Rattle.bits.proofs.Bits.{bit_word, word_ext, bit_test_set}
 use Rattle.bits.proofs.Tests.{all, all_at, and_left, and_right, truth}
 use Rattle.registers.specs.declared.Row.{Row}
 use Rattle.registers.specs.declared.Kind.{Kind}
 use Rattle.registers.specs.declared.Kind.TheVariants.{Endpoint}
 use Rattle.registers.specs.Rows.{Line, line, endpoint_table, find, endpoint_row, row_of, masks, pmcsr, device_capabilities, device_control, device_zeros, power_state_bits, flr_byte, initiate_flr, flr_capable, reads_zero, default_must_be_zero, checked_words, flr_capability_word, starts_flr}
-use Rattle.registers.specs.inner.Masks.{start_of, same_kind, column, link_mask, flr_mask, with_defaults}
+use Rattle.registers.specs.inner.Masks.{start_of, column, link_mask, flr_mask, with_defaults}
 use Rattle.registers.specs.Words.{write_bit, reset_bit, link_reset, flr_reset}
 
 -- ---- kinds
@@ -22,9 +23,6 @@ use Rattle.registers.specs.Words.{write_bit, reset_bit, link_reset, flr_reset}
 -- a test that every kind passes
 pub every_kind : (test : Kind → Bool) → T (test Endpoint) → (kind : Kind) → T (test kind)
 every_kind test t Endpoint = t
-
-pub same_kind_lem : (a b : Kind) → same_kind a b ≡ true → a ≡ b
-same_kind_lem Endpoint Endpoint e = refl
 
 -- ---- rows
 
@@ -69,9 +67,6 @@ mask_at kind i j m hi hj e =
     let t : get_or masks (start_of kind + n) 0 ≡ column (n % 4) (row_of kind (n / 4)) = eqb→eq _ _ (all_at 256 (right kind) (masks_tested kind) n (omega arith)) in
     ap (λ (m : ℕ). get_or masks m 0) a ∙ (rw (b, d) at t)
 
-pub starts_at : (kind : Kind) → 0 ≡ start_of kind
-starts_at Endpoint = refl
-
 -- what four entries of a list say
 abbrev pub row_from : List ℕ → ℕ → Row
 row_from t j = record { w = get_or t j 0; c = get_or t (j + 1) 0; s = get_or t (j + 2) 0; k = get_or t (j + 3) 0 }
@@ -89,24 +84,27 @@ row_in t kind i j e d h =
 
 -- ---- what stands behind a name by kind and word
 
-pub reads_zero_at : (kind : Kind) (i : ℕ) (here : Bool) → eqb i device_control ≡ here → cond here device_zeros 0 ≡ reads_zero kind i
+pub reads_zero_is : (kind : Kind) (i : ℕ) → reads_zero kind i ≡ cond (eqb i device_control) device_zeros 0
 unfolding reads_zero
-reads_zero_at Endpoint i here e = rw e refl
+reads_zero_is Endpoint i = refl
 
-pub must_be_zero_at : (kind : Kind) (i : ℕ) (device pm : Bool) → eqb i device_control ≡ device → eqb i pmcsr ≡ pm → cond device device_zeros (cond pm power_state_bits 0) ≡ default_must_be_zero kind i
+pub must_be_zero_is : (kind : Kind) (i : ℕ) → default_must_be_zero kind i ≡ cond (eqb i device_control) device_zeros (cond (eqb i pmcsr) power_state_bits 0)
 unfolding default_must_be_zero
-must_be_zero_at Endpoint i device pm e d = rw (e, d) refl
+must_be_zero_is Endpoint i = refl
 
-pub checked_at : (kind : Kind) → pmcsr ∷ device_control ∷ [] ≡ checked_words kind
-checked_at Endpoint = refl
-
-pub capabilities_at : (kind : Kind) → device_capabilities ≡ flr_capability_word kind
-capabilities_at Endpoint = refl
-
-pub starts_flr_at : (kind : Kind) (i value enables default : ℕ) (here lane wanted : Bool) → eqb i device_control ≡ here → bit enables flr_byte ≡ lane → bit value initiate_flr ≡ wanted
-    → (here && lane && wanted && bit default flr_capable) ≡ starts_flr kind i value enables default
+pub starts_flr_is : (kind : Kind) (i value enables default : ℕ)
+    → starts_flr kind i value enables default ≡ (eqb i device_control && bit enables flr_byte && bit value initiate_flr && bit default flr_capable)
 unfolding starts_flr
-starts_flr_at Endpoint i value enables default here lane wanted e d f = rw (e, d, f) refl
+starts_flr_is Endpoint i value enables default = refl
+
+pub lane_set : (enables : ℕ) → not (eqb (bit_and enables 2) 0) ≡ bit enables flr_byte
+lane_set enables = bit_test_set enables flr_byte
+
+pub initiate_set : (value : ℕ) → not (eqb (bit_and value 32768) 0) ≡ bit value initiate_flr
+initiate_set value = bit_test_set value initiate_flr
+
+pub capable_set : (default : ℕ) → not (eqb (bit_and default 268435456) 0) ≡ bit default flr_capable
+capable_set default = bit_test_set default flr_capable
 
 -- ---- one bit of each operation
 

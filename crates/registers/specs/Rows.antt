@@ -1,6 +1,6 @@
 -- The attributes of the words of configuration space, by a slot's kind and a word's number. 01 has one kind of slot, an endpoint function; kinds are
 -- named for requests to come.
-use Rattle.std.specs.Prelude.{ℕ, zero, suc, ◌*◌, ◌/◌, Bool, not, ◌&&◌, ◌||◌, cond, List, [], ◌∷◌, eqb, get_or}
+use Rattle.std.specs.Prelude.{ℕ, zero, suc, ◌*◌, ◌/◌, Bool, not, ◌&&◌, ◌||◌, cond, List, [], ◌∷◌, eqb}
 use Rattle.bits.specs.Bits.{bit, word}
 use Rattle.registers.specs.declared.Row.{Row}
 use Rattle.registers.specs.declared.Kind.{Kind}

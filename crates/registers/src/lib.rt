@@ -1,24 +1,25 @@
 // The registers in configuration space: the attributes of each word, and what a read, a write, a reset and the hardware do to one word.
+// Kept in this file: kind, word and values of one access are passed one by one, as the definitions of specs/ take them.
 #![tactic(auto)]
 
 mod table; // the const table of masks
 
 ghost use Rattle.std.specs.Prelude.{◌≡◌, ◌+◌, ◌<◌, ◌≤◌, get_or};
 ghost use Rattle.registers.specs.Rows.{masks, row_of, reads_zero, default_must_be_zero, checked_words, default_allowed, flr_capability_word, starts_flr};
-ghost use Rattle.registers.specs.inner.Masks.{start_of, same_kind, held as held_bits, link_mask, flr_mask, with_defaults};
-ghost use Rattle.registers.specs.Words.{lane_mask, power_state, read_word, write_word, starts_d3hot, hardware_set};
+ghost use Rattle.registers.specs.inner.Masks.{start_of, held as held_bits, link_mask, flr_mask, with_defaults};
+ghost use Rattle.registers.specs.Words.{lane_mask, power_state, stays, read_word, write_word, starts_d3hot, hardware_set};
 
 use table::MASKS;
 
 // What a slot holds: it selects the attributes of its words.
-#[derive(Clone, Copy)]
+#[derive(Clone, Copy, PartialEq, Eq)]
 pub enum Kind {
     Endpoint,
 }
 
 // The attributes of a word, a mask each: bits that software writes, bits that are cleared by writing 1, sticky bits, and bits that
 // are kept through FLR.
-#[derive(Clone, Copy)]
+#[derive(Clone, Copy, Default)]
 pub struct Row {
     pub w: u32,
     pub c: u32,
@@ -26,8 +27,12 @@ pub struct Row {
     pub k: u32,
 }
 
-// The table: W, C, S, K of each of the 64 words of each kind.
-pub type Masks = [u32; 256];
+// The table: W, C, S, K of each of the 64 words of each kind. It holds those masks and no others.
+#[derive(Clone, Copy)]
+pub struct Masks {
+    pub rows: [u32; 256],
+    pub ghost given: { rows ≡ masks },
+}
 
 // PMCSR at 44h, device capabilities at 74h, and device control and status at 78h, as word numbers.
 pub const PMCSR: usize = 17;
@@ -50,9 +55,9 @@ const FLR_CAPABLE: u32 = 0x10000000;
 
 // A copy of the table, to be lent to what looks up rows: once for a long call, since it costs some hundred instructions.
 pub fn attributes() -> Masks
-    ensures { result ≡ masks }
+    ensures { result.rows ≡ masks }
 {
-    MASKS
+    Masks { rows: MASKS }
 }
 
 // Where the masks of a kind start in the table: 64 rows of four.
@@ -64,58 +69,44 @@ fn start(kind: Kind) -> usize
     }
 }
 
-// Whether two slots hold the same.
-pub fn same_kind(a: Kind, b: Kind) -> bool
-    ensures { result ≡ same_kind a b }
-{
-    start(a) == start(b)
-}
-
 // The row of word i, in the lent table; no word above 63 has attributes.
 pub fn row_of(table: &Masks, kind: Kind, i: usize) -> Row
-    requires { table.now ≡ masks }
     ensures { result ≡ row_of kind i }
 {
-    if 63 < i {
-        return Row {
-            w: 0,
-            c: 0,
-            s: 0,
-            k: 0,
-        };
+    if i > 63 {
+        return Row::default();
     }
     let j = start(kind) + i * 4;
     Row {
-        w: table[j],
-        c: table[j + 1],
-        s: table[j + 2],
-        k: table[j + 3],
+        w: table.rows[j],
+        c: table.rows[j + 1],
+        s: table.rows[j + 2],
+        k: table.rows[j + 3],
     }
 }
 
 // The bits of word i that always read 0.
+#[tactic(auto, using(crate::proofs::Rules::reads_zero_is))]
 pub fn reads_zero(kind: Kind, i: usize) -> u32
     ensures { result ≡ reads_zero kind i }
 {
     match kind {
-        Kind::Endpoint => { if i == DEVICE_CONTROL { DEVICE_ZEROS } else { 0 } }
+        Kind::Endpoint if i == DEVICE_CONTROL => DEVICE_ZEROS,
+        Kind::Endpoint => 0,
     }
 }
 
 // The bits that the default of word i must not have set.
+#[tactic(auto, using(crate::proofs::Rules::must_be_zero_is))]
 pub fn default_must_be_zero(kind: Kind, i: usize) -> u32
     ensures { result ≡ default_must_be_zero kind i }
 {
     match kind {
-        Kind::Endpoint => {
-            if i == DEVICE_CONTROL {
-                DEVICE_ZEROS
-            } else if i == PMCSR {
-                POWER_STATE
-            } else {
-                0
-            }
-        }
+        Kind::Endpoint => match i {
+            DEVICE_CONTROL => DEVICE_ZEROS,
+            PMCSR => POWER_STATE,
+            _ => 0,
+        },
     }
 }
 
@@ -146,21 +137,16 @@ pub fn flr_capability_word(kind: Kind) -> usize
 }
 
 // Whether a write of `value` to word i starts an FLR; `capabilities` is the slot's default of that word.
+#[tactic(auto, using(crate::proofs::Rules::starts_flr_is, crate::proofs::Rules::lane_set, crate::proofs::Rules::initiate_set, crate::proofs::Rules::capable_set))]
 pub fn starts_flr(kind: Kind, i: usize, value: u32, enables: u8, capabilities: u32) -> bool
     ensures { result ≡ starts_flr kind i value enables capabilities }
 {
     match kind {
         Kind::Endpoint => {
-            if i != DEVICE_CONTROL {
-                return false;
-            }
-            if enables & FLR_BYTE == 0 {
-                return false;
-            }
-            if value & INITIATE_FLR == 0 {
-                return false;
-            }
-            capabilities & FLR_CAPABLE != 0
+            i == DEVICE_CONTROL
+                && enables & FLR_BYTE != 0
+                && value & INITIATE_FLR != 0
+                && capabilities & FLR_CAPABLE != 0
         }
     }
 }
@@ -173,10 +159,11 @@ pub fn power_state(live: u32) -> u32
 }
 
 // Whether a write to word i takes PowerState from 3 to 0: the word before it and after it.
+#[tactic(auto, unfolding(crate::specs::Words::starts_d3hot))]
 pub fn starts_d3hot(kind: Kind, i: usize, old: u32, new: u32) -> bool
     ensures { result ≡ starts_d3hot kind i old new }
 {
-    (i == PMCSR) & (power_state(old) == 3) & (power_state(new) == 0)
+    i == PMCSR && power_state(old) == 3 && power_state(new) == 0
 }
 
 // All eight bits of each byte lane that is enabled. Only the four low bits of `enables` count.
@@ -187,20 +174,19 @@ pub fn lane_mask(enables: u8) -> u32
     ((on | on << 7 | on << 14 | on << 21) & 0x01010101) * 255
 }
 
+// Whether writing `value` to word i leaves PowerState as it was.
+fn stays(i: usize, value: u32) -> bool
+    ensures { result ≡ stays i value }
+{
+    let state = power_state(value);
+    i == PMCSR && (state == 1 || state == 2)
+}
+
 // The two bits of PowerState where writing `value` to word i leaves them as they were, else none.
 fn held(i: usize, value: u32) -> u32
     ensures { result ≡ held_bits i value }
 {
-    let state = value & 3;
-    if i == PMCSR {
-        if state == 1 {
-            return 3;
-        }
-        if state == 2 {
-            return 3;
-        }
-    }
-    0
+    if stays(i, value) { POWER_STATE } else { 0 }
 }
 
 pub fn read_word(kind: Kind, i: usize, live: u32, enables: u8) -> u32
@@ -210,7 +196,6 @@ pub fn read_word(kind: Kind, i: usize, live: u32, enables: u8) -> u32
 }
 
 pub fn write_word(table: &Masks, kind: Kind, i: usize, old: u32, value: u32, enables: u8) -> u32
-    requires { table.now ≡ masks }
     ensures { result ≡ write_word kind i old value enables }
 {
     let row = row_of(table, kind, i);
@@ -222,7 +207,6 @@ pub fn write_word(table: &Masks, kind: Kind, i: usize, old: u32, value: u32, ena
 
 // The bits of word i that take their defaults when the link goes down: those in W or C and not in S.
 pub fn link_mask(table: &Masks, kind: Kind, i: usize) -> u32
-    requires { table.now ≡ masks }
     ensures { result ≡ link_mask kind i }
 {
     let row = row_of(table, kind, i);
@@ -231,7 +215,6 @@ pub fn link_mask(table: &Masks, kind: Kind, i: usize) -> u32
 
 // And at an FLR: those in K don't either.
 pub fn flr_mask(table: &Masks, kind: Kind, i: usize) -> u32
-    requires { table.now ≡ masks }
     ensures { result ≡ flr_mask kind i }
 {
     let row = row_of(table, kind, i);
@@ -246,7 +229,6 @@ pub fn with_defaults(mask: u32, live: u32, default: u32) -> u32
 }
 
 pub fn hardware_set(table: &Masks, kind: Kind, i: usize, live: u32, mask: u32) -> u32
-    requires { table.now ≡ masks }
     ensures { result ≡ hardware_set kind i live mask }
 {
     let row = row_of(table, kind, i);

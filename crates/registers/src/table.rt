@@ -1,4 +1,5 @@
 // The const table of attributes: W, C, S, K of each of the 64 words, kind after kind.
+// Kept: `registers::attributes` is described in docs/ as a copy of a const table of 256 masks, which rows of four would not be.
 
 // The masks of an endpoint.
 pub const MASKS: [u32; 256] = [

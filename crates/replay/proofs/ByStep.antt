@@ -7,6 +7,7 @@ use lib.ListN.{length, get_or, take, drop, length-append, length-drop, drop_of_l
 use lib.Seq.{take_all, length-take-le}
 use lib.Dec.{ltb, eqb}
 use borrow.Author.Tests.{lt-ltb, le-ltb, eq-eqb, ne_eqb}
+use Rattle.std.specs.Prelude.{Option, Some, None, Result, Ok, Err, slice_get}
 use Rattle.bits.proofs.Numbers.{by_le}
 use Rattle.times.specs.declared.Nanos.{Nanos}
 use Rattle.trace.specs.Format.{when◌then◌else◌, Next, complete, incomplete, unknown, next}
@@ -18,12 +19,11 @@ use Rattle.capture.specs.Advances.{due}
 use Rattle.capture.specs.Replay.{Progress, begins, ended_with, more_answered}
 use Rattle.capture.specs.Lent.{progress_in, replay_of}
 use Rattle.capture.proofs.Kept.{read_kept}
-use Rattle.replay_state.specs.declared.Due.{Due}
-use Rattle.replay_state.specs.inner.Moves.{Tidy, more_bytes, due_of, checked_at}
+use Rattle.replay_state.specs.inner.Moves.{Tidy, more_bytes, checked_at}
 use Rattle.replay_state.proofs.Moves.{bytes_there}
-use Rattle.replay_state.proofs.Dues.{count_is}
 use Rattle.replay.specs.declared.Step.{Step}
-use Rattle.replay.specs.inner.Steps.{halts, runs_advance, runs_record, step_at_record, step_at_advances, step_after_stamp, step_of}
+use Rattle.replay.specs.declared.End.{End}
+use Rattle.replay.specs.inner.Steps.{halts, runs_record, step_at_record, step_at_advances, step_checked, step_after_stamp, step_of}
 use Rattle.replay.proofs.NextStep.{tidy_kept}
 
 -- ---- the bytes of a record that is whole are there
@@ -36,25 +36,26 @@ size_by space bs unknown e = omega arith
 pub size_there : (space : ℕ) (bs : List ℕ) → whole_size space (next bs) ≤ length bs
 size_there space bs = size_by space bs (next bs) refl
 
--- ---- the advances as the code holds them
-abbrev pub next_due : Due → (answered : ℕ) → Nanos
-next_due d n = when eqb n 0 then d.first else d.second
+-- ---- the advances that are left
+pub some_left : (ts : List Nanos) (n : ℕ) (t : Nanos) → slice_get ts n ≡ Some t → drop n ts ≡ t ∷ drop (suc n) ts
+some_left [] n t e = cc
+some_left (u ∷ ts) zero t e = let f : u ≡ t = cc in ap (λ (v : Nanos). v ∷ ts) f
+some_left (u ∷ ts) (suc n) t e = some_left ts n t e
 
-pub due-next : (ts : List Nanos) (n : ℕ) → n < (due_of ts).count → drop n ts ≡ next_due (due_of ts) n ∷ drop (n + 1) ts
-due-next [] n h = absurd (omega arith)
-due-next (t ∷ []) zero h = refl
-due-next (t ∷ []) (suc n) h = absurd (omega arith)
-due-next (t ∷ u ∷ more) zero h = refl
-due-next (t ∷ u ∷ more) (suc zero) h = refl
-due-next (t ∷ u ∷ more) (suc (suc n)) h = absurd (omega arith)
+pub in_them : (ts : List Nanos) (n : ℕ) (t : Nanos) → slice_get ts n ≡ Some t → n < length ts
+in_them [] n t e = cc
+in_them (u ∷ ts) zero t e = omega arith
+in_them (u ∷ ts) (suc n) t e = omega (arith, in_them ts n t e)
 
-pub count_few : (ts : List Nanos) → (due_of ts).count ≤ 2
-count_few [] = omega arith
-count_few (t ∷ []) = omega arith
-count_few (t ∷ u ∷ more) = omega arith
+pub none_left : (ts : List Nanos) (n : ℕ) → slice_get ts n ≡ None → drop n ts ≡ []
+none_left [] zero e = refl
+none_left [] (suc n) e = refl
+none_left (u ∷ ts) zero e = cc
+none_left (u ∷ ts) (suc n) e = none_left ts n e
 
-pub none_due : (ts : List Nanos) (n : ℕ) → length ts ≤ 2 → (due_of ts).count ≤ n → drop n ts ≡ []
-none_due ts n f h = drop_of_length-le ts {i = n} (omega (arith, count_is ts f))
+-- ---- the call ends with a state that is tidy
+pub halted : (number : ℕ) (r : Replay) (at : ℕ) → Tidy r → ◌≡◌ {A = Result Step End} (Err (record { number = number; replay = r; at = at })) (halts number (progress_in r) at)
+halted number r at t = λ i. Err (record { number = number; replay = t i; at = at })
 
 -- ---- with q in hand at byte `at`
 module _ (q : Progress) (space at : ℕ) where
@@ -64,44 +65,28 @@ module _ (q : Progress) (space at : ℕ) where
     unfolding step_at_record
     no_record z = let s = whole_size space (next rest) in sym (if_true (eqb s 0) _ _ (eq-eqb s 0 (sym e ∙ z)))
 
-    pub a_record : (size ≡ 0 → ⊥) → runs_record size (begins q) (at + size) ≡ step_at_record q space at rest
+    pub a_record : (size ≡ 0 → ⊥) → Ok (runs_record size (begins q) (at + size)) ≡ step_at_record q space at rest
     unfolding step_at_record
     a_record z =
         let s = whole_size space (next rest) in
-        ap (λ (n : ℕ). runs_record n (begins q) (at + n)) e ∙ sym (if_false (eqb s 0) _ _ (ne_eqb s 0 (λ y. z (e ∙ y))))
+        ap {B = Result Step End} (λ (n : ℕ). Ok (runs_record n (begins q) (at + n))) e ∙ sym (if_false (eqb s 0) _ _ (ne_eqb s 0 (λ y. z (e ∙ y))))
 
   -- at an advance
-  module _ (ts : List Nanos) (t : Nanos) (more : List Nanos) (e : ts ≡ t ∷ more) (rest : List ℕ) where
-    pub no_room : space < 8 → halts 30 q at ≡ step_at_advances ts q space at rest
-    unfolding step_at_advances
-    no_room h = sym (ap (λ (l : List Nanos). step_at_advances l q space at rest) e ∙ if_true (ltb space 8) _ _ (lt-ltb space 8 h))
-
-    pub an_advance : 8 ≤ space → runs_advance t (more_answered 1 q) at ≡ step_at_advances ts q space at rest
-    unfolding step_at_advances
-    an_advance h = sym (ap (λ (l : List Nanos). step_at_advances l q space at rest) e ∙ if_false (ltb space 8) _ _ (le-ltb space 8 h))
-
-  pub no_advance : (ts : List Nanos) → ts ≡ [] → (rest : List ℕ) (x : Step) → x ≡ step_at_record q space at rest → x ≡ step_at_advances ts q space at rest
+  pub no_advance : (ts : List Nanos) → ts ≡ [] → (rest : List ℕ) (x : Result Step End) → x ≡ step_at_record q space at rest → x ≡ step_at_advances ts q space at rest
   unfolding step_at_advances
   no_advance ts e rest x f = f ∙ sym (ap (λ (l : List Nanos). step_at_advances l q space at rest) e)
 
   -- at the kind byte
-  pub not_in_order : (rest : List ℕ) (n : ℕ) → 0 < length rest → n ≡ checked_at q (get_or rest 0 0) → (n ≡ 0 → ⊥) → halts n (ended_with n q) at ≡ step_after_stamp q space at rest
+  pub checked_so : (rest : List ℕ) (n : Option ℕ) → 0 < length rest → n ≡ checked_at q (get_or rest 0 0)
+      → (x : Result Step End) → x ≡ step_checked n q space at rest → x ≡ step_after_stamp q space at rest
   unfolding step_after_stamp
-  not_in_order [] n h e z = absurd (omega arith)
-  not_in_order (k ∷ rest) n h e z =
-      let m = checked_at q k in
-      ap (λ (x : ℕ). halts x (ended_with x q) at) e ∙ sym (if_false (eqb m 0) _ _ (ne_eqb m 0 (λ y. z (e ∙ y))))
-
-  pub in_order : (rest : List ℕ) → 0 < length rest → checked_at q (get_or rest 0 0) ≡ 0
-      → (x : Step) → x ≡ step_at_advances (drop q.answered (due q.earlier q.stamp)) q space at rest → x ≡ step_after_stamp q space at rest
-  unfolding step_after_stamp
-  in_order [] h e x f = absurd (omega arith)
-  in_order (k ∷ rest) h e x f = let m = checked_at q k in f ∙ sym (if_true (eqb m 0) _ _ (eq-eqb m 0 e))
+  checked_so [] n h e x f = absurd (omega arith)
+  checked_so (k ∷ rest) n h e x f = f ∙ ap (λ (m : Option ℕ). step_checked m q space at (k ∷ rest)) e
 
   -- where nothing is left
   pub at_the_end : (rest : List ℕ) → rest ≡ [] → halts 0 q at ≡ step_after_stamp q space at rest
   unfolding step_after_stamp
-  at_the_end rest e = sym (ap (step_after_stamp q space at) e)
+  at_the_end rest e = sym (ap {B = Result Step End} (step_after_stamp q space at) e)
 
 -- ---- the stamp's bytes are taken from the input: t is what the code has then
 module _ (r : Replay) (input : List ℕ) (at : ℕ) (l : length r.stamp ≡ 4) (s : r.stamp_len ≤ 4) (within : at ≤ length input) where
@@ -148,5 +133,5 @@ module _ (r : Replay) (input : List ℕ) (at : ℕ) (l : length r.stamp ≡ 4) (
     pub step_after : (space : ℕ) → step_after_stamp (progress_in t) space place (drop place input) ≡ step_of (progress_in r) space at input
     unfolding step_of
     step_after space =
-        ◌∙◌ {A = Step} (λ i. step_after_stamp (in_hand i) space (moved i) (drop (moved i) input))
+        ◌∙◌ {A = Result Step End} (λ i. step_after_stamp (in_hand i) space (moved i) (drop (moved i) input))
         (ap (λ (n : ℕ). let bs = take (4 - n) (drop at input) in step_after_stamp (more_bytes bs (progress_in r)) space (at + length bs) (drop (at + length bs) input)) (sym there))

@@ -1,4 +1,6 @@
 -- Feed on whole records, in a slice for just their answers.
+use Rattle.times.specs.declared.Nanos.{Nanos}
+use Rattle.std.specs.Prelude.{Option}
 use Prim.Native.Nat.{ℕ, ◌+◌, ◌-◌, ◌*◌}
 use mathlib.Core.Path.{◌≡◌, refl, ap, sym, ◌∙◌, subst}
 use mathlib.Core.List.{List, [], ◌∷◌, ◌++◌, append-nil}
@@ -16,7 +18,6 @@ use Rattle.trace.specs.Exactly.{joined_up, AllWhole}
 use Rattle.trace.proofs.Records.{carrying}
 use Rattle.trace.proofs.Refusing.{feeds_open}
 use Rattle.readiness.specs.declared.Setup.{Setup}
-use Rattle.readiness.specs.declared.Moment.{Moment}
 use Rattle.readiness.specs.inner.Phases.{notes, moments_with}
 use Rattle.readiness.proofs.Order.{Each}
 use Rattle.readiness.proofs.KeptMoments.{Within, each_append, with_notes}
@@ -86,7 +87,7 @@ within-runs k defaults s₀ s (w ∷ ws) a b g =
 pub runs-noted : (k : Setup) (defaults : List ℕ) (s₀ s : State) (ws : List (List ℕ)) → AllWhole ws → Bytes (joined_up ws) → Good k defaults s₀ s
     → (m : List ℕ) → length m ≡ length s₀.statuses → (t : State) (m' a : List ℕ)
     → ◌≡◌ {A = Ran State} (record { state = t; answer = a }) (runs (device k defaults) s ws) → m' ≡ notes (readied_over k defaults s ws) m
-    → (kept : List Moment) → ◌≡◌ {A = Ran Noted} (record { state = noted_with kept t m'; answer = a }) (runs (noting_device k defaults) (noted_with kept s m) ws)
+    → (kept : List (Option Nanos)) → ◌≡◌ {A = Ran Noted} (record { state = noted_with kept t m'; answer = a }) (runs (noting_device k defaults) (noted_with kept s m) ws)
 runs-noted k defaults s₀ s ws w b g m n t m' a is noted-all kept =
     let es = readied_over k defaults s ws in
     let e : moments_with kept m' ≡ kept_over (device k defaults) (notes_in k defaults) s ws (moments_with kept m) =
@@ -103,7 +104,7 @@ runs_one {S} D s w = λ i. record { state = (D.run s w).state; answer = append-n
 pub one_noted : (k : Setup) (defaults : List ℕ) (s : State) (w : List ℕ) → next w ≡ complete w → Bytes w → Good k defaults s s
     → (m : List ℕ) → length m ≡ length s.statuses → (t : State) (m' a : List ℕ)
     → ◌≡◌ {A = Ran State} (record { state = t; answer = a }) ((device k defaults).run s w) → m' ≡ notes (readied_over k defaults s (w ∷ [])) m
-    → (kept : List Moment) → ◌≡◌ {A = Ran Noted} (record { state = noted_with kept t m'; answer = a }) ((noting_device k defaults).run (noted_with kept s m) w)
+    → (kept : List (Option Nanos)) → ◌≡◌ {A = Ran Noted} (record { state = noted_with kept t m'; answer = a }) ((noting_device k defaults).run (noted_with kept s m) w)
 one_noted k defaults s w e b g m n t m' a is noted-all kept =
     ◌∙◌ {A = Ran Noted}
     (runs-noted k defaults s s (w ∷ []) (e, tt) (subst Bytes (sym (append-nil w)) b) g m n t m' a (◌∙◌ {A = Ran State} is (sym (runs_one (device k defaults) s w))) noted-all kept)

@@ -1,4 +1,6 @@
 -- A call with bytes carried: the record that they begin, and then the entries; or no record.
+use Rattle.times.specs.declared.Nanos.{Nanos}
+use Rattle.std.specs.Prelude.{Option}
 use Prim.Native.Nat.{ℕ, ◌+◌, ◌-◌, ◌≤◌, ◌<◌}
 use mathlib.Core.Path.{◌≡◌, ap, sym, ◌∙◌}
 use mathlib.Core.Bool.{true}
@@ -15,7 +17,6 @@ use Rattle.trace.proofs.Records.{carrying}
 use Rattle.trace.proofs.Loop.{Got, by_gather, end_few}
 use Rattle.readiness.specs.declared.Status.{Status}
 use Rattle.readiness.specs.declared.Setup.{Setup}
-use Rattle.readiness.specs.declared.Moment.{Moment}
 use Rattle.readiness.specs.inner.Phases.{moments_with}
 use Rattle.records.specs.declared.Port.{Port}
 use Rattle.records.specs.State.{state}
@@ -61,7 +62,7 @@ module _ (k : Setup) (defaults : List ℕ) (s : Noted) (c input answers : List �
       (ap (λ (h : Replayed Noted). leaves (noting_bench k defaults) h answers) (sym one)))
 
 -- OR NO RECORD
-pub no_record_yet : (k : Setup) (defaults : List ℕ) (kept : List Moment) (port : Port) (statuses : List Status) (moments live cells input answers : List ℕ) (r : Replay) → Tidy r
+pub no_record_yet : (k : Setup) (defaults : List ℕ) (kept : List (Option Nanos)) (port : Port) (statuses : List Status) (moments live cells input answers : List ℕ) (r : Replay) → Tidy r
     → begun (carried_of port) ≡ true → length (carried_of port) ≡ port.carried_len → 0 < port.carried_len
     → whole_size (length answers) (next (carried_of port ++ input)) ≡ 0
     → left_of kept (carried_on port r input) statuses moments live cells answers ≡ comes_to k defaults (noted_with kept (state port.dev statuses live cells) moments) (carried_of port) (progress_in r) input answers

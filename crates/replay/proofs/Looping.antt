@@ -1,4 +1,6 @@
 -- What holds at the head of replay's loop, that a stretch keeps it, and what its end gives.
+use Rattle.times.specs.declared.Nanos.{Nanos}
+use Rattle.std.specs.Prelude.{Option, Result, Err}
 use Prim.Native.Nat.{ℕ, ◌+◌, ◌-◌, ◌≤◌, ◌<◌}
 use mathlib.Core.Path.{◌≡◌, refl, ap, sym, ◌∙◌, subst}
 use mathlib.Core.Bool.{Bool, true, false}
@@ -17,7 +19,6 @@ use Rattle.trace.proofs.Records.{carrying}
 use Rattle.trace.proofs.Loop.{end_few}
 use Rattle.readiness.specs.declared.Status.{Status}
 use Rattle.readiness.specs.declared.Setup.{Setup}
-use Rattle.readiness.specs.declared.Moment.{Moment}
 use Rattle.readiness.specs.inner.Phases.{notes, moments_with}
 use Rattle.readiness.proofs.KeptMoments.{notes-length}
 use Rattle.readiness.specs.declared.Dev.{Dev}
@@ -37,16 +38,17 @@ use Rattle.replay_rules.specs.KeepingMoments.{notes_in, noting_bench, HeldNoting
 use Rattle.replay_state.specs.inner.Moves.{Tidy}
 use Rattle.replay.specs.declared.Step.{Step}
 use Rattle.replay.specs.declared.Stretch.{Stretch}
+use Rattle.replay.specs.declared.End.{End}
 use Rattle.replay.specs.declared.ReplayedPort.{ReplayedPort}
 use Rattle.replay.specs.inner.Noted.{Noted, noting_device, noted_with}
 use Rattle.replay.specs.inner.Steps.{step_of}
 use Rattle.replay.specs.inner.Calls.{Between, took_kind_of, ends_at, ends_left}
-use Rattle.replay.specs.inner.Stretches.{WrittenOut, end_of, Follows}
-use Rattle.replay.proofs.NextStep.{take_few, left_at, end_at, Halts, does_step}
+use Rattle.replay.specs.inner.Stretches.{WrittenOut, Stretched}
+use Rattle.replay.proofs.NextStep.{take_few, left_at, end_at, Halts, Does, does_step}
 use Rattle.replay.proofs.Feeding.{good_runs, runs-noted}
 
 -- what is left of a call, with the statuses as a list
-abbrev pub left_of : List Moment → ReplayedPort → (statuses : List Status) (moments live cells answers : List ℕ) → Left HeldNoting
+abbrev pub left_of : List (Option Nanos) → ReplayedPort → (statuses : List Status) (moments live cells answers : List ℕ) → Left HeldNoting
 left_of kept x statuses moments live cells answers =
     record { number = x.number; consumed = x.consumed; written = x.written; held = held_noting (held x.port statuses live cells) (moments_with kept moments) x.replay; answers = answers }
 
@@ -63,7 +65,7 @@ module _ (k : Setup) (defaults : List ℕ) (input room : List ℕ) (s₀ : State
   abbrev D : Device Noted
   D = noting_device k defaults
 
-  abbrev pub call : List Moment → Replayed Noted
+  abbrev pub call : List (Option Nanos) → Replayed Noted
   call kept = replay_open D (carrying (noted_with kept s₀ m₀) []) q₀ (length room) input
 
   -- at the head, with `at` bytes consumed and w bytes written
@@ -75,7 +77,7 @@ module _ (k : Setup) (defaults : List ℕ) (input room : List ℕ) (s₀ : State
     pub w_in : w ≤ length room
     pub long : length answers ≡ length room
     pub between : Between r
-    pub so_far : (kept : List Moment)
+    pub so_far : (kept : List (Option Nanos))
         → call kept ≡ later at (take w answers) (replay_open D (carrying (noted_with kept (state dev statuses live cells) moments) []) (progress_in r) (length room - w) (drop at input))
     pub beyond : drop w answers ≡ drop w room
 
@@ -105,20 +107,21 @@ module _ {k : Setup} {defaults input room : List ℕ} {s₀ : State} {m₀ : Lis
   abbrev space : ℕ
   space = length answers - w
 
-  abbrev pub step : Step
+  abbrev pub step : Result Step End
   step = step_of (progress_in r) space at input
 
   same_room : space ≡ length room - w
   same_room = ap (λ (n : ℕ). n - w) v.long
 
-  pub ends : step.runs ≡ false → Halts input v.bytes (progress_in r) space at step
-  ends e =
-      (does_step input v.bytes (progress_in r) space at (omega (arith, take_few r.stamp_len r.stamp, v.between.few)) v.between.answered v.at_in).1 e
+  pub ends : (end : End) → step ≡ Err end → Halts input v.bytes (progress_in r) space at end
+  ends end e =
+      subst (Does input v.bytes (progress_in r) space at) e
+      (does_step input v.bytes (progress_in r) space at (omega (arith, take_few r.stamp_len r.stamp, v.between.few)) v.between.answered v.at_in)
 
   -- A STRETCH HAS RUN: `new` are its answers
-  module _ (x : Stretch) (trace : List ℕ) (f : Follows r space at input x trace) (some : 0 < x.answers) where
+  module _ (x : Stretch) (trace : List ℕ) (f : Stretched r space at input x trace) where
     abbrev pub written : WrittenOut (progress_in r) space at input (progress_in x.replay) x.at x.answers (take x.len trace)
-    written = (f.runs some).1
+    written = f.written
 
     abbrev pub ran : Ran State
     ran = runs (device k defaults) present written.records
@@ -148,7 +151,7 @@ module _ {k : Setup} {defaults input room : List ℕ} {s₀ : State} {m₀ : Lis
           subst (Good k defaults s₀) (sym (ap (λ (u : Ran State). u.state) is)) (good_runs k defaults s₀ present written.records written.wholes (subst Bytes written.joined written.are_bytes) v.good)
 
       -- the records run on the bench that notes
-      noted_so : (kept : List Moment) → ◌≡◌ {A = Ran Noted}
+      noted_so : (kept : List (Option Nanos)) → ◌≡◌ {A = Ran Noted}
           (record { state = noted_with kept (state dev' statuses' live' cells') moments'; answer = new })
           (runs (noting_device k defaults) (noted_with kept present moments) written.records)
       noted_so kept =
@@ -169,7 +172,7 @@ module _ {k : Setup} {defaults input room : List ℕ} {s₀ : State} {m₀ : Lis
             at_in = o.to;
             w_in = omega (arith, fits, v.long);
             long = ap length apart ∙ omega (arith, length-append (take w answers ++ new) (drop (w + x.answers) answers), front, length-drop (w + x.answers) answers, fits, v.long);
-            between = (f.runs some).0;
+            between = f.between;
             so_far =
                 λ kept.
                 let s = noted_with kept present moments in
@@ -190,7 +193,7 @@ module _ {k : Setup} {defaults input room : List ℕ} {s₀ : State} {m₀ : Lis
           }
 
   -- THE CALL'S END: after `at` and w it comes to f, with no more answers
-  module _ (kept : List Moment) where
+  module _ (kept : List (Option Nanos)) (end : End) (over : step ≡ Err end) where
     abbrev whole : Replayed Noted
     whole = call k defaults input room s₀ m₀ q₀ kept
 
@@ -215,45 +218,45 @@ module _ {k : Setup} {defaults input room : List ℕ} {s₀ : State} {m₀ : Lis
         (λ i. record { number = n i; consumed = c i; written = (u ∙ sym l) i; held = h i; answers = y i })
         (ap (λ (g : Replayed Noted). leaves (noting_bench k defaults) g room) (sym e))
 
-    ends_so : step.runs ≡ false → whole ≡ later at (take w answers) (later (step.at - at) [] (end_at input v.bytes (progress_in r) space at here step))
-    ends_so e =
+    ends_so : whole ≡ later at (take w answers) (later (end.at - at) [] (end_at input v.bytes (progress_in r) space at here end))
+    ends_so =
         v.so_far kept
         ∙ ap (λ (j : ℕ). later at (take w answers) (replay_open (noting_device k defaults) (carrying here []) (progress_in r) j (drop at input))) (sym same_room)
-        ∙ ap (later at (take w answers)) ((ends e).goes k defaults here)
+        ∙ ap (later at (take w answers)) ((ends end over).goes k defaults here)
 
     -- with a number of its own
-    stopped : step.runs ≡ false → eqb step.number 0 ≡ false
-        → given (record { number = step.number; consumed = step.at; written = w; port = opened dev; replay = step.replay }) ≡ leaves (noting_bench k defaults) whole room
-    stopped e z =
-        let f = still step.number (carrying here []) (progress_in step.replay) [] in
-        let c : step.at ≡ at + (step.at - at + 0) = omega (arith, (ends e).from) in
-        finish (later (step.at - at) [] f) _
-        (ends_so e ∙ ap (λ (g : Replayed Noted). later at (take w answers) (later (step.at - at) [] g)) (if_false (eqb step.number 0) _ f z))
-        refl refl c refl (λ i. held_noting (held (opened dev) statuses live cells) (moments_with kept moments) ((ends e).tidy i))
+    stopped : eqb end.number 0 ≡ false
+        → given (record { number = end.number; consumed = end.at; written = w; port = opened dev; replay = end.replay }) ≡ leaves (noting_bench k defaults) whole room
+    stopped z =
+        let f = still end.number (carrying here []) (progress_in end.replay) [] in
+        let c : end.at ≡ at + (end.at - at + 0) = omega (arith, (ends end over).from) in
+        finish (later (end.at - at) [] f) _
+        (ends_so ∙ ap (λ (g : Replayed Noted). later at (take w answers) (later (end.at - at) [] g)) (if_false (eqb end.number 0) _ f z))
+        refl refl c refl (λ i. held_noting (held (opened dev) statuses live cells) (moments_with kept moments) ((ends end over).tidy i))
 
     -- or what is left begins a record, or none
-    left_over : step.runs ≡ false → eqb step.number 0 ≡ true → given (ends_left dev (end_of step) input w) ≡ leaves (noting_bench k defaults) whole room
-    left_over e z =
-        let rest = drop step.at input in
+    left_over : eqb end.number 0 ≡ true → given (ends_left dev end input w) ≡ leaves (noting_bench k defaults) whole room
+    left_over z =
+        let rest = drop end.at input in
         let m = end_count rest (next rest) in
-        let f = left_at input v.bytes (progress_in r) space at here step in
-        let c : step.at + (m - 0) ≡ at + (step.at - at + m) = omega (arith, (ends e).from) in
+        let f = left_at input v.bytes (progress_in r) space at here end in
+        let c : end.at + (m - 0) ≡ at + (end.at - at + m) = omega (arith, (ends end over).from) in
         let l : m ≡ length (take m rest) = sym (length-take-le m rest (end_few rest).1) in
-        finish (later (step.at - at) [] f) _
-        (ends_so e ∙ ap (λ (g : Replayed Noted). later at (take w answers) (later (step.at - at) [] g)) (if_true (eqb step.number 0) f _ z))
+        finish (later (end.at - at) [] f) _
+        (ends_so ∙ ap (λ (g : Replayed Noted). later at (take w answers) (later (end.at - at) [] g)) (if_true (eqb end.number 0) f _ z))
         refl refl c refl
         (λ i. held_noting (held (record { dev = dev; carried = pad 16 (take m rest); carried_len = l i; broken = eqb (end_number (next rest)) 31 }) statuses live cells) (moments_with kept moments)
-        (took step.replay (ends e).tidy m i))
+        (took end.replay (ends end over).tidy m i))
 
-    pub ended : step.runs ≡ false → given (ends_at dev (end_of step) input w) ≡ leaves (noting_bench k defaults) whole room
-    ended e =
+    pub ended : given (ends_at dev end input w) ≡ leaves (noting_bench k defaults) whole room
+    ended =
         if_cases (λ (x : ReplayedPort). given x ≡ leaves (noting_bench k defaults) whole room)
-        (eqb step.number 0) (ends_left dev (end_of step) input w) _ (left_over e) (stopped e)
+        (eqb end.number 0) (ends_left dev end input w) _ left_over stopped
 
   -- no more is consumed than is there, and no more written than there is room for
-  pub ended_few : step.runs ≡ false → ((ends_at dev (end_of step) input w).consumed ≤ length input) × ((ends_at dev (end_of step) input w).written ≤ length room)
-  ended_few e =
-      let rest = drop step.at input in
-      if_cases (λ (x : ReplayedPort). (x.consumed ≤ length input) × (x.written ≤ length room)) (eqb step.number 0) (ends_left dev (end_of step) input w) _
-      (λ _. (omega (arith, (end_few rest).1, length-drop step.at input, (ends e).to), v.w_in))
-      (λ _. ((ends e).to, v.w_in))
+  pub ended_few : (end : End) → step ≡ Err end → ((ends_at dev end input w).consumed ≤ length input) × ((ends_at dev end input w).written ≤ length room)
+  ended_few end over =
+      let rest = drop end.at input in
+      if_cases (λ (x : ReplayedPort). (x.consumed ≤ length input) × (x.written ≤ length room)) (eqb end.number 0) (ends_left dev end input w) _
+      (λ _. (omega (arith, (end_few rest).1, length-drop end.at input, (ends end over).to), v.w_in))
+      (λ _. ((ends end over).to, v.w_in))

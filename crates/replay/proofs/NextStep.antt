@@ -1,13 +1,14 @@
 -- What stands next in a call is what replay does next: a record runs, or the call ends.
 use Prim.Native.Nat.{ℕ, zero, suc, ◌+◌, ◌-◌, ◌≤◌, ◌<◌}
 use mathlib.Core.Path.{◌≡◌, refl, ap, sym, ◌∙◌, subst}
-use mathlib.Core.Bool.{Bool, true, false, true≢false, false≢true}
+use mathlib.Core.Bool.{Bool, true, false}
 use mathlib.Core.List.{List, [], ◌∷◌, ◌++◌, append-nil}
 use native.Mathlib.Omega.{arith}
 use lib.ListN.{length, take, drop, length-append, length-drop}
 use lib.Seq.{drop-drop}
 use lib.Dec.{ltb, eqb}
 use borrow.Author.Tests.{ltb-true, ltb-false, eqb-true, eqb-false, ne_eqb}
+use Rattle.std.specs.Prelude.{Option, Some, None, Result, Ok, Err}
 use Rattle.bits.proofs.Bytes.{bytes_take, bytes_drop}
 use Rattle.times.specs.declared.Nanos.{Nanos}
 use Rattle.trace.specs.Format.{when◌then◌else◌, Bytes, next, complete}
@@ -26,8 +27,10 @@ use Rattle.capture.proofs.Kept.{read_kept}
 use Rattle.capture.proofs.Steps.{InOrder, AtRecord, took_kind, later-later, stamps, goes_back, kind_01, no_advance_room, one_advance, whole_record, no_record}
 use Rattle.replay_state.specs.inner.Moves.{Tidy, more_bytes}
 use Rattle.replay.specs.declared.Step.{Step}
-use Rattle.replay.specs.inner.Steps.{halts, runs_advance, runs_record, step_bytes, step_at_record, step_at_advances, step_after_stamp, step_of}
+use Rattle.replay.specs.declared.End.{End}
+use Rattle.replay.specs.inner.Steps.{end_with, halts, runs_advance, runs_record, step_bytes, step_at_record, step_at_advances, step_checked, step_after_stamp, step_of}
 use Rattle.replay.specs.inner.Calls.{Between}
+use Rattle.replay.specs.inner.Stretches.{StepFits}
 
 -- ---- the state of a replay as a call leaves it
 pub tidy_kept : (q : Progress) → Tidy (replay_of q)
@@ -77,7 +80,7 @@ module _ (input : List ℕ) (inputs : Bytes input) (q : Progress) (space at : �
   pub record RunsOf (w : List ℕ) (step : Step) : Type 0 where
     pub is : next w ≡ complete w
     pub bytes : Bytes w
-    pub size : (step.size ≤ 17) × (step.size ≤ step.at)
+    pub size : StepFits step
     pub room : 8 ≤ space
     pub from : at ≤ step.at
     pub to : step.at ≤ length input
@@ -91,49 +94,48 @@ module _ (input : List ℕ) (inputs : Bytes input) (q : Progress) (space at : �
   Runs step = RunsOf (step_bytes step input) step
 
   -- what is left begins a record, or none
-  abbrev pub left_at : Noted → Step → Replayed Noted
-  left_at s step =
-      let rest = drop step.at input in
+  abbrev pub left_at : Noted → End → Replayed Noted
+  left_at s end =
+      let rest = drop end.at input in
       let n = end_number (next rest) in
       let m = end_count rest (next rest) in
       record {
         bench = record { state = s; carried = take m rest; broken = eqb n 31 };
-        progress = took_kind (progress_in step.replay) m;
+        progress = took_kind (progress_in end.replay) m;
         number = n;
         consumed = m;
         answers = [];
       }
 
-  abbrev pub end_at : Noted → Step → Replayed Noted
-  end_at s step = when eqb step.number 0 then left_at s step else still step.number (carrying s []) (progress_in step.replay) []
+  abbrev pub end_at : Noted → End → Replayed Noted
+  end_at s end = when eqb end.number 0 then left_at s end else still end.number (carrying s []) (progress_in end.replay) []
 
   -- the call ends
-  pub record Halts (step : Step) : Type 0 where
-    pub tidy : Tidy step.replay
-    pub from : at ≤ step.at
-    pub to : step.at ≤ length input
-    pub stamped : step.at < length input → step.replay.stamp_len ≡ 4
-    pub goes : (k : Setup) (defaults : List ℕ) (s : Noted) → here k defaults s ≡ later (step.at - at) [] (end_at s step)
+  pub record Halts (end : End) : Type 0 where
+    pub tidy : Tidy end.replay
+    pub from : at ≤ end.at
+    pub to : end.at ≤ length input
+    pub stamped : end.at < length input → end.replay.stamp_len ≡ 4
+    pub goes : (k : Setup) (defaults : List ℕ) (s : Noted) → here k defaults s ≡ later (end.at - at) [] (end_at s end)
 
-  abbrev pub Does : Step → Type 0
-  Does step = (step.runs ≡ true → Runs step) × (step.runs ≡ false → Halts step)
+  abbrev pub Does : Result Step End → Type 0
+  Does (Ok step) = Runs step
+  Does (Err end) = Halts end
 
   -- ---- the stamp's bytes are taken: q' is in hand, and the rest is left
   module _ (q' : Progress) (at' : ℕ) (from : at ≤ at') (to : at' ≤ length input)
       (taken : (k : Setup) (defaults : List ℕ) (s : Noted) → here k defaults s ≡ later (at' - at) [] (replay_open (noting_device k defaults) (carrying s []) q' space (drop at' input)))
       (few : length q'.stamp ≤ 4) (some : q'.answered ≤ length (due q'.earlier q'.stamp)) where
     does_halt : (n : ℕ) (q'' : Progress) → (at' < length input → length q''.stamp ≡ 4)
-        → ((k : Setup) (defaults : List ℕ) (s : Noted) → replay_open (noting_device k defaults) (carrying s []) q' space (drop at' input) ≡ end_at s (halts n q'' at')) → Does (halts n q'' at')
-    does_halt n q'' stamped e = (
-      λ f. absurd (false≢true f),
-      λ _. record {
-        tidy = tidy_kept q'';
-        from = from;
-        to = to;
-        stamped = stamped;
-        goes = λ k defaults s. taken k defaults s ∙ ap (later (at' - at) []) (e k defaults s);
-      },
-    )
+        → ((k : Setup) (defaults : List ℕ) (s : Noted) → replay_open (noting_device k defaults) (carrying s []) q' space (drop at' input) ≡ end_at s (end_with n q'' at')) → Does (halts n q'' at')
+    does_halt n q'' stamped e =
+        record {
+          tidy = tidy_kept q'';
+          from = from;
+          to = to;
+          stamped = stamped;
+          goes = λ k defaults s. taken k defaults s ∙ ap (later (at' - at) []) (e k defaults s);
+        }
 
     -- a record of the bytes w has run, and n more bytes are consumed
     ran : (k : Setup) (defaults : List ℕ) (s : Noted) (w : List ℕ) (n : ℕ) (q'' : Progress) (at'' : ℕ) → at'' - at ≡ at' - at + n → (rest : List ℕ) → drop at'' input ≡ rest
@@ -155,7 +157,7 @@ module _ (input : List ℕ) (inputs : Bytes input) (q : Progress) (space at : �
         does_halt n q'' stamped
         (λ k defaults s. e k defaults s
         ∙ ap (λ (p : Progress). still n (carrying s []) p []) (sym (read_kept q''))
-        ∙ sym (if_false (eqb n 0) (left_at s (halts n q'' at')) _ (ne_eqb n 0 (λ z. omega arith))))
+        ∙ sym (if_false (eqb n 0) (left_at s (end_with n q'' at')) _ (ne_eqb n 0 (λ z. omega arith))))
 
     -- nothing is left
     does_end : drop at' input ≡ [] → Does (halts 0 q' at')
@@ -178,25 +180,22 @@ module _ (input : List ℕ) (inputs : Bytes input) (q : Progress) (space at : �
       module _ (order : InOrder q' kind) where
         -- an advance
         does_advance : (t : Nanos) (others : List Nanos) → drop q'.answered (due q'.earlier q'.stamp) ≡ t ∷ others
-            → Does (when ltb space 8 then halts 30 q' at' else runs_advance t (more_answered 1 q') at')
+            → Does (when ltb space 8 then halts 30 q' at' else Ok (runs_advance t (more_answered 1 q') at'))
         does_advance t others e =
             if_cases Does (ltb space 8) _ _
             (λ h. does_stop 30 q' (omega arith) (λ _. stamped) (λ k defaults s. rw rest (no_advance_room (noting_device k defaults) s q' space kind more order t others e (ltb-true space 8 h))))
-            (λ h. (
-              λ _. record {
-                is = advance-whole t;
-                bytes = bytes_advance t;
-                size = (omega arith, omega arith);
-                room = ltb-false space 8 h;
-                from = from;
-                to = to;
-                after = between-kept (more_answered 1 q') few (omega (arith, length-drop q'.answered (due q'.earlier q'.stamp), ap length e));
-                goes =
-                    λ k defaults s. ran k defaults s (advance t) 0 (more_answered 1 q') at' (omega arith) (drop at' input) refl
-                    (rw rest (one_advance (noting_device k defaults) s q' space kind more order t others e (ltb-false space 8 h)));
-              },
-              λ f. absurd (true≢false f),
-            ))
+            (λ h. record {
+              is = advance-whole t;
+              bytes = bytes_advance t;
+              size = tt;
+              room = ltb-false space 8 h;
+              from = from;
+              to = to;
+              after = between-kept (more_answered 1 q') few (omega (arith, length-drop q'.answered (due q'.earlier q'.stamp), ap length e));
+              goes =
+                  λ k defaults s. ran k defaults s (advance t) 0 (more_answered 1 q') at' (omega arith) (drop at' input) refl
+                  (rw rest (one_advance (noting_device k defaults) s q' space kind more order t others e (ltb-false space 8 h)));
+            })
 
         -- a record
         module _ (e : drop q'.answered (due q'.earlier q'.stamp) ≡ []) (size : ℕ) (g : Got (drop at' input) size) (room : 8 ≤ space) where
@@ -211,8 +210,7 @@ module _ (input : List ℕ) (inputs : Bytes input) (q : Progress) (space at : �
 
           is_written : g.whole ≡ step_bytes (runs_record size (begins q') (at' + size)) input
           is_written =
-              let z : at' ≡ at' + size - size = omega arith in
-              got_bytes l size g ∙ ap (λ (n : ℕ). take size (drop n input)) z ∙ sym (if_false (eqb size 0) _ _ (ne_eqb size 0 (λ y. omega (arith, counts.some))))
+              let z : at' ≡ at' + size - size = omega arith in got_bytes l size g ∙ ap (λ (n : ℕ). take size (drop n input)) z
 
           does_whole : Runs (runs_record size (begins q') (at' + size))
           does_whole =
@@ -244,7 +242,7 @@ module _ (input : List ℕ) (inputs : Bytes input) (q : Progress) (space at : �
             (λ z. does_halt 0 q' (λ _. stamped)
             (λ k defaults s. no_record (noting_device k defaults) s q' space l n m (record { kind = kind; more = more; bytes = rest; in_order = order; answered = e }) ((by_gather (noting_device k defaults) s space l).1 (eqb-true size 0 z))
             ∙ ap (λ (p : Progress). record { bench = record { state = s; carried = take m l; broken = eqb n 31 }; progress = took_kind p m; number = n; consumed = m; answers = [] }) (sym (read_kept q'))))
-            (λ z. let g = (by_gather blank tt space l).0 (positive size z) in (λ _. does_whole e size g.0 g.1, λ f. absurd (true≢false f)))
+            (λ z. let g = (by_gather blank tt space l).0 (positive size z) in does_whole e size g.0 g.1)
 
       -- the advances that are not answered, or the record
       does_advances : InOrder q' kind → (ts : List Nanos) → drop q'.answered (due q'.earlier q'.stamp) ≡ ts → Does (step_at_advances ts q' space at' (kind ∷ more))
@@ -256,9 +254,9 @@ module _ (input : List ℕ) (inputs : Bytes input) (q : Progress) (space at : �
       does_kind : Does (step_after_stamp q' space at' (kind ∷ more))
       unfolding step_after_stamp
       does_kind =
-          let P : ℕ → Type 0 = λ n. Does (when eqb n 0 then step_at_advances (drop q'.answered (due q'.earlier q'.stamp)) q' space at' (kind ∷ more) else halts n (ended_with n q') at') in
-          if_cases P (back q'.earlier (stamp_in q'.stamp)) 32 _ does_back
-          (λ b. if_cases P (eqb kind 1) 33 0 (does_01 b)
+          let P : Option ℕ → Type 0 = λ n. Does (step_checked n q' space at' (kind ∷ more)) in
+          if_cases P (back q'.earlier (stamp_in q'.stamp)) (Some 32) _ does_back
+          (λ b. if_cases P (eqb kind 1) (Some 33) None (does_01 b)
           (λ o. does_advances (record { stamped = stamped; forward = b; kind = o }) (drop q'.answered (due q'.earlier q'.stamp)) refl))
 
     -- after the stamp

@@ -1,7 +1,7 @@
 -- Entries written out, one after the other: nothing yet, and one entry more.
 use Prim.Native.Nat.{ℕ, zero, suc, ◌+◌, ◌-◌, ◌*◌, ◌≤◌, ◌<◌}
 use mathlib.Core.Path.{◌≡◌, refl, ap, sym, ◌∙◌, subst}
-use mathlib.Core.Bool.{true, false, ◌&&◌}
+use mathlib.Core.Bool.{Bool, true, false, ◌&&◌}
 use mathlib.Core.List.{List, [], ◌∷◌, ◌++◌, append-nil, append_assoc, map}
 use native.Mathlib.Omega.{arith}
 use native.Mathlib.Nat.{sub-zero}
@@ -9,6 +9,7 @@ use lib.ListN.{length, get_or, take, drop, take-append-drop, length-append, leng
 use lib.Seq.{length-take-le, drop-drop}
 use lib.Dec.{eqb}
 use borrow.Author.Tests.{eqb-true}
+use Rattle.std.specs.Prelude.{None, Some}
 use Rattle.bits.proofs.Bytes.{bytes_append, bytes_take, bytes_drop}
 use Rattle.bits.proofs.Tests.{both_left, both_right}
 use Rattle.times.specs.declared.Nanos.{Nanos}
@@ -25,37 +26,32 @@ use Rattle.readiness.specs.declared.Setup.{Setup}
 use Rattle.replay.specs.inner.Noted.{Noted, noting_device}
 use Rattle.decode.proofs.Fields.{kind_at_lem}
 use Rattle.capture.specs.declared.Replay.{Replay}
-use Rattle.capture.specs.Advances.{none, was, due, advance, advance_bytes}
+use Rattle.capture.specs.Advances.{Earlier, due, advance, advance_bytes}
 use Rattle.capture.specs.Replay.{Progress, after_entry, later, replay_open}
 use Rattle.capture.specs.Lent.{progress_in}
 use Rattle.capture.specs.Calls.{blank}
 use Rattle.capture.proofs.Advancing.{due_few, due_none}
 use Rattle.capture.proofs.Steps.{later-zero, later-later}
 use Rattle.capture.proofs.Wholes.{joined_append, wholes_append, joined_advances, wholes_advances, bytes_advances, runs_append, entry_runs}
-use Rattle.replay_state.specs.declared.Due.{Due}
-use Rattle.replay_state.specs.inner.Moves.{due_of}
-use Rattle.replay_state.proofs.Dues.{count_is}
+use Rattle.replay_state.specs.inner.Moves.{advances_in}
+use Rattle.replay_state.proofs.Dues.{dues_held}
 use Rattle.replay.specs.declared.Entry.{Entry}
 use Rattle.replay.specs.inner.Calls.{Between}
-use Rattle.replay.specs.inner.Stretches.{advances_in, StandsNext, open_in, WrittenOut, stands_after_entry}
-
--- the advances as the code holds them are those that are due
-pub advances-held : (ts : List Nanos) → length ts ≤ 2 → advances_in (due_of ts) ≡ ts
-advances-held [] h = refl
-advances-held (t ∷ []) h = refl
-advances-held (t ∷ u ∷ []) h = refl
-advances-held (t ∷ u ∷ v ∷ more) h = absurd (omega arith)
+use Rattle.replay.specs.inner.Stretches.{StandsNext, open_in, WrittenOut, stamp_before}
 
 -- a replay that stands between two entries
-pub stands_after : (r : Replay) → Between r → stands_after_entry r ≡ true → progress_in r ≡ after_entry r.earlier
-stands_after r b e =
-    let both = both_left (r.begun && eqb r.stamp_len 0) (eqb r.ended 0) e in
-    let len : r.stamp_len ≡ 0 = eqb-true r.stamp_len 0 (both_right r.begun (eqb r.stamp_len 0) both) in
+before_is : (t : Bool) (e : Earlier) (stamp : Stamp) → (when t then e else None) ≡ Some stamp → (t ≡ true) × (e ≡ Some stamp)
+before_is true e stamp h = (refl, h)
+before_is false e stamp h = cc
+
+pub stands_after : (r : Replay) (stamp : Stamp) → Between r → stamp_before r ≡ Some stamp → progress_in r ≡ after_entry stamp
+stands_after r stamp b e =
+    let is = before_is (eqb r.stamp_len 0 && eqb r.ended 0) r.earlier stamp e in
+    let len : r.stamp_len ≡ 0 = eqb-true r.stamp_len 0 (both_left (eqb r.stamp_len 0) (eqb r.ended 0) is.0) in
     let none_there : take r.stamp_len r.stamp ≡ [] = ap (λ (n : ℕ). take n r.stamp) len in
     let none_answered : r.answered ≡ 0 = omega (arith, b.answered, ap length (due_none (progress_in r).earlier (progress_in r).stamp (omega (arith, ap length none_there)))) in
-    let some_begun = if_true r.begun (was r.earlier) none (both_left r.begun (eqb r.stamp_len 0) both) in
-    let not_ended = eqb-true r.ended 0 (both_right (r.begun && eqb r.stamp_len 0) (eqb r.ended 0) e) in
-    λ i. record { earlier = some_begun i; stamp = none_there i; answered = none_answered i; ended = not_ended i }
+    let not_ended = eqb-true r.ended 0 (both_right (eqb r.stamp_len 0) (eqb r.ended 0) is.0) in
+    λ i. record { earlier = is.1 i; stamp = none_there i; answered = none_answered i; ended = not_ended i }
 
 -- nothing is written out yet
 pub none_yet : (q : Progress) (space at : ℕ) (input : List ℕ) → at ≤ length input → WrittenOut q space at input q at 0 []
@@ -85,7 +81,7 @@ module _ {before : Stamp} {input : List ℕ} {at left room : ℕ} {e : Entry} (n
   stamp = take 4 (drop at input)
 
   abbrev pub ts : List Nanos
-  ts = due (was before) stamp
+  ts = due (Some before) stamp
 
   abbrev l : List ℕ
   l = drop (at + 4) input
@@ -103,7 +99,7 @@ module _ {before : Stamp} {input : List ℕ} {at left room : ℕ} {e : Entry} (n
   four = length-take-le 4 (drop at input) (omega (arith, length-drop at input, n.there))
 
   pub few : length ts ≤ 2
-  few = due_few (was before) stamp
+  few = due_few (Some before) stamp
 
   -- the kind is no 01, and its size is that of a record
   other : (eqb kind 1 ≡ false) × (e.size ≡ size_of kind)
@@ -117,10 +113,10 @@ module _ {before : Stamp} {input : List ℕ} {at left room : ℕ} {e : Entry} (n
   short = omega (arith, other.1, size-within kind)
 
   pub held : advances_in e.due ≡ ts
-  held = ap advances_in n.due ∙ advances-held ts few
+  held = ap advances_in n.due ∙ dues_held (Some before) stamp
 
-  pub count : e.due.count ≡ length ts
-  count = ap (λ (d : Due). d.count) n.due ∙ count_is ts few
+  pub count : length (advances_in e.due) ≡ length ts
+  count = ap length held
 
   got : Got l e.size
   got =
@@ -175,7 +171,7 @@ module _ {before : Stamp} {input : List ℕ} {at left room : ℕ} {e : Entry} (n
 
 -- THE ENTRY, written out
 pub entry_written : {before : Stamp} {input : List ℕ} {at left room : ℕ} {e : Entry} → (n : StandsNext before input at left room e) (some : 0 < e.size) → Bytes input
-    → WrittenOut (after_entry before) left at input (after_entry e.stamp) (at + 4 + e.size) (8 * e.due.count + 8) (advance_bytes (ts n some) ++ bytes n some)
+    → WrittenOut (after_entry before) left at input (after_entry e.stamp) (at + 4 + e.size) (8 * length (advances_in e.due) + 8) (advance_bytes (ts n some) ++ bytes n some)
 entry_written {before} {input} {at} {left} {room} {e} n some b =
     let t = ts n some in
     let w = bytes n some in
@@ -192,7 +188,7 @@ entry_written {before} {input} {at} {left} {room} {e} n some b =
           λ k defaults s.
           let D = noting_device k defaults in
           let rest = drop (at + 4 + e.size) input in
-          let left_then : left - (8 * length t + 8) ≡ left - (8 * e.due.count + 8) = ap (λ (m : ℕ). left - (8 * m + 8)) (sym (count n some)) in
+          let left_then : left - (8 * length t + 8) ≡ left - (8 * length (advances_in e.due) + 8) = ap (λ (m : ℕ). left - (8 * m + 8)) (sym (count n some)) in
           let c : 4 + length w ≡ at + 4 + e.size - at = omega (arith, length_bytes n some) in
           ap (replay_open D (open_in s) (after_entry before) left) (cut n some)
           ∙ entry_runs D s before (stamp n some) w rest left (four n some) n.forward (whole n some) (no_01 n some) (omega (arith, few n some, n.answers))
@@ -238,9 +234,9 @@ answered left space d h g = omega (arith, h, g)
 pub one_more : {q : Progress} {space from : ℕ} {before : Stamp} {input : List ℕ} {at left room : ℕ} {e : Entry} {front : List ℕ}
     → (n : StandsNext before input at left room e) (some : 0 < e.size) → Bytes input → left ≤ space
     → WrittenOut q space from input (after_entry before) at (space - left) front
-    → WrittenOut q space from input (after_entry e.stamp) (at + 4 + e.size) (space - (left - 8 * e.due.count - 8)) (front ++ (advance_bytes (ts n some) ++ bytes n some))
+    → WrittenOut q space from input (after_entry e.stamp) (at + 4 + e.size) (space - (left - 8 * length (advances_in e.due) - 8)) (front ++ (advance_bytes (ts n some) ++ bytes n some))
 one_more {q} {space} {from} {before} {input} {at} {left} {room} {e} {front} n some b h o =
     let new = advance_bytes (ts n some) ++ bytes n some in
-    subst (λ (a : ℕ). WrittenOut q space from input (after_entry e.stamp) (at + 4 + e.size) a (front ++ new)) (answered left space e.due.count h (omega (arith, count n some, few n some, n.answers)))
+    subst (λ (a : ℕ). WrittenOut q space from input (after_entry e.stamp) (at + 4 + e.size) a (front ++ new)) (answered left space (length (advances_in e.due)) h (omega (arith, count n some, few n some, n.answers)))
     (written_append o
-    (subst (λ (m : ℕ). WrittenOut (after_entry before) m at input (after_entry e.stamp) (at + 4 + e.size) (8 * e.due.count + 8) new) (room-left left space h) (entry_written n some b)))
+    (subst (λ (m : ℕ). WrittenOut (after_entry before) m at input (after_entry e.stamp) (at + 4 + e.size) (8 * length (advances_in e.due) + 8) new) (room-left left space h) (entry_written n some b)))

@@ -1,4 +1,6 @@
 -- A call of replay by the number that stops it: with one nothing changes; with none it goes on from a state that can be relied on.
+use Rattle.times.specs.declared.Nanos.{Nanos}
+use Rattle.std.specs.Prelude.{Option}
 use Prim.Native.Nat.{ℕ, zero, suc, ◌*◌, ◌≤◌, ◌<◌}
 use mathlib.Core.Path.{◌≡◌, refl, ap, sym, ◌∙◌, subst}
 use mathlib.Core.Bool.{Bool, true, false}
@@ -13,8 +15,6 @@ use Rattle.trace.proofs.Gathering.{begun_partial}
 use Rattle.bits.proofs.Tests.{both_left, both_right}
 use Rattle.readiness.specs.declared.Status.{Status}
 use Rattle.readiness.specs.declared.Setup.{Setup}
-use Rattle.readiness.specs.declared.Moment.{Moment}
-use Rattle.readiness.specs.MadeReady.{moments_of}
 use Rattle.readiness.specs.inner.Phases.{statuses_in}
 use Rattle.records.specs.declared.Port.{Port}
 use Rattle.records.specs.State.{State}
@@ -95,7 +95,7 @@ module _ (setup : Setup) (defaults : List ℕ) (h : HeldWith) (bus : setup.bus <
       record { tidy = tidy_kept q; few = s.stamp; answered = subst (λ (p : Progress). q.answered ≤ length (due p.earlier p.stamp)) (sym (read_kept q)) s.some }
 
   -- what it comes to, with the moments
-  pub replays-opened : (kept : List Moment) (input answers : List ℕ)
+  pub replays-opened : (kept : List (Option Nanos)) (input answers : List ℕ)
       → comes_to setup defaults (record { base = state_of h.port; kept = kept }) (carried_of h.port.port) (progress_in (replay_of q)) input answers ≡ replays_noting setup defaults (held_noting h.port kept h.replay) input answers
   replays-opened kept input answers =
       let N = noting_bench setup defaults in
@@ -105,7 +105,7 @@ module _ (setup : Setup) (defaults : List ℕ) (h : HeldWith) (bus : setup.bus <
       ∙ sym (replays_open N (held_noting h.port kept h.replay) input answers (same_stops L (notes_in setup defaults) (held_noting h.port kept h.replay) ∙ e))
 
 -- with a number nothing changes, the moments neither
-pub replays_not : (setup : Setup) (defaults : List ℕ) (h : HeldWith) (kept : List Moment) (input answers : List ℕ) (n : ℕ) → n ≡ stops_first (bench setup defaults) h → (n ≡ 0 → ⊥)
+pub replays_not : (setup : Setup) (defaults : List ℕ) (h : HeldWith) (kept : List (Option Nanos)) (input answers : List ℕ) (n : ℕ) → n ≡ stops_first (bench setup defaults) h → (n ≡ 0 → ⊥)
     → unchanged (held_noting h.port kept h.replay) answers n ≡ replays_noting setup defaults (held_noting h.port kept h.replay) input answers
 replays_not setup defaults h kept input answers n e z =
     let N = noting_bench setup defaults in
@@ -117,15 +117,15 @@ pub stamp_fits_lem : (setup : Setup) (defaults : List ℕ) (h : HeldWith) → st
 stamp_fits_lem setup defaults h e = let L = bench setup defaults in both_left (stamp_fits h.replay) _ (unstopped L h e).matched
 
 -- ---- a call that changes the lent numbers in place is a call on the lent statuses
-pub in_place_lent : (setup : Setup) (defaults : List ℕ) (n k : ℕ) (phases : List ℕ) (port : Port) (live cells : List ℕ) (m : Replay) (kept : List Moment) (input answers : List ℕ) (r : ReplayedInPlace) (lent' after live' cells' answers' : List ℕ)
+pub in_place_lent : (setup : Setup) (defaults : List ℕ) (n k : ℕ) (phases : List ℕ) (port : Port) (live cells : List ℕ) (m : Replay) (kept : List (Option Nanos)) (input answers : List ℕ) (r : ReplayedInPlace) (lent' after live' cells' answers' : List ℕ)
     → k ≡ 4 * n → k ≤ length phases → length lent' ≡ k
     → left_kept_in_place r lent' live' cells' answers' ≡ replays_noting setup defaults (held_noting (held_in port (take k phases) live cells) kept m) input answers
     → ◌≡◌ {A = Left HeldNoting}
-    (record { number = r.number; consumed = r.consumed; written = r.written; held = held_noting (held r.port (lent_of n (statuses_in (lent' ++ after))) live' cells') (moments_of r.moments) r.replay; answers = answers' })
+    (record { number = r.number; consumed = r.consumed; written = r.written; held = held_noting (held r.port (lent_of n (statuses_in (lent' ++ after))) live' cells') r.moments.by_slot r.replay; answers = answers' })
     (replays_noting setup defaults (held_noting (held port (lent_of n (statuses_in phases)) live cells) kept m) input answers)
 in_place_lent setup defaults n k phases port live cells m kept input answers r lent' after live' cells' answers' e h j x =
     ap {B = Left HeldNoting}
-    (λ (l : List Status). record { number = r.number; consumed = r.consumed; written = r.written; held = held_noting (held r.port l live' cells') (moments_of r.moments) r.replay; answers = answers' })
+    (λ (l : List Status). record { number = r.number; consumed = r.consumed; written = r.written; held = held_noting (held r.port l live' cells') r.moments.by_slot r.replay; answers = answers' })
     (numbers-lent n lent' after (j ∙ e))
     ∙ x
     ∙ ap (λ (l : List Status). replays_noting setup defaults (held_noting (held port l live cells) kept m) input answers) (lent-numbers n k phases e h)

@@ -10,6 +10,13 @@ use Rattle.trace.specs.Format.{pad}
 use Rattle.capture.specs.Advances.{advance_bytes}
 use Rattle.capture.proofs.Wholes.{length-advances}
 
+-- n bytes in place of as many
+pub put_pasted : (d : List ℕ) (at : ℕ) (s x : List ℕ) (n m : ℕ) → x ≡ take n s → m ≡ n → take at d ++ (x ++ drop m (drop at d)) ≡ paste d at s n
+put_pasted d at s x n m e f =
+    (λ i. take at d ++ (e i ++ drop (f i) (drop at d)))
+    ∙ ap (λ (r : List ℕ). take at d ++ (take n s ++ r)) (drop-drop n at d)
+    ∙ sym (append_assoc (take at d) (take n s) (drop (at + n) d))
+
 -- the front of what was put
 pub take_within : (d : List ℕ) (at : ℕ) (s : List ℕ) (n m : ℕ) → m ≤ n → at ≤ length d → n ≤ length s → take (at + m) (paste d at s n) ≡ take at d ++ take m s
 take_within d at s n m h hd hs =
@@ -31,12 +38,6 @@ paste_more d at s n t m e hd =
   where
     sum : at + n + m ≡ at + (n + m)
     sum = omega arith
-
--- the front of as many bytes as the longest record has
-pub front-first : (l : List ℕ) (size : ℕ) → 17 ≤ length l → size ≤ 17 → take size (pad 17 (take 17 l)) ≡ take size l
-front-first l size hl h =
-    let n : length (take 17 l) ≡ 17 = length-take-le 17 l hl in
-    take-append-le size (take 17 l) (replicate (17 - length (take 17 l)) 0) (omega (arith, n, h)) ∙ take-take size 17 l h
 
 -- advances, and the front of what was put behind them
 pub entry_put : (trace : List ℕ) (len : ℕ) (ts : List Nanos) (l : List ℕ) (size : ℕ) (trace₁ trace₂ : List ℕ)

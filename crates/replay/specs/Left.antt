@@ -1,8 +1,7 @@
 -- What the code of replay gives.
-use Rattle.std.specs.Prelude.{ℕ, List}
+use Rattle.times.specs.declared.Nanos.{Nanos}
+use Rattle.std.specs.Prelude.{ℕ, List, Option}
 use Rattle.trace.specs.Lent.{Left}
-use Rattle.readiness.specs.declared.Moment.{Moment}
-use Rattle.readiness.specs.MadeReady.{moments_of}
 use Rattle.readiness.specs.inner.Phases.{moments_in, moments_with}
 use Rattle.demand3.specs.Held.{held, lent_of}
 use Rattle.set_up.specs.Lent.{held_in}
@@ -13,7 +12,7 @@ use Rattle.replay.specs.declared.ReplayedPort.{ReplayedPort}
 use Rattle.replay.specs.declared.ReplayedInPlace.{ReplayedInPlace}
 
 -- what a call leaves, with the moments
-abbrev with_moments : Left HeldWith → List Moment → Left HeldNoting
+abbrev with_moments : Left HeldWith → List (Option Nanos) → Left HeldNoting
 with_moments x l = record { number = x.number; consumed = x.consumed; written = x.written; held = held_noting x.held.port l x.held.replay; answers = x.answers }
 
 -- what the code gives, with the n statuses that are lent
@@ -40,13 +39,13 @@ left_in_place r phases live cells answers =
 
 -- the same with the moments
 abbrev pub left_kept : ℕ → Replayed → (live cells answers : List ℕ) → Left HeldNoting
-left_kept n r live cells answers = with_moments (left n r live cells answers) (moments_of r.moments)
+left_kept n r live cells answers = with_moments (left n r live cells answers) r.moments.by_slot
 
 abbrev pub left_kept_in_place : ReplayedInPlace → (phases live cells answers : List ℕ) → Left HeldNoting
-left_kept_in_place r phases live cells answers = with_moments (left_in_place r phases live cells answers) (moments_of r.moments)
+left_kept_in_place r phases live cells answers = with_moments (left_in_place r phases live cells answers) r.moments.by_slot
 
 -- what the entries of a call give, with the moments of before the call and those of the numbers
-abbrev pub left_noting : List Moment → ReplayedPort → (phases live cells answers : List ℕ) → Left HeldNoting
+abbrev pub left_noting : List (Option Nanos) → ReplayedPort → (phases live cells answers : List ℕ) → Left HeldNoting
 left_noting kept r phases live cells answers =
     record {
       number = r.number;

@@ -14,7 +14,6 @@ ghost use Rattle.demand3.specs.Feeding.{bench};
 ghost use Rattle.set_up.specs.Lent.{held_in};
 ghost use Rattle.replay_rules.specs.Replaying.{held_with, replays};
 ghost use Rattle.replay_rules.specs.KeepingMoments.{held_noting, replays_noting};
-ghost use Rattle.readiness.specs.MadeReady.{moments_of};
 ghost use Rattle.replay.specs.Left.{left, left_in_place, left_kept, left_kept_in_place};
 
 use capture::Replay;
@@ -31,6 +30,7 @@ use ticks::Stamp;
 use times::Nanos;
 
 // What replay gives, beside the lent slices.
+// Kept: README's entries answer these numbers.
 #[derive(Clone, Copy)]
 pub struct Replayed {
     pub number: u8,
@@ -43,6 +43,7 @@ pub struct Replayed {
 }
 
 // What replay gives where the statuses are changed in place, beside the lent slices.
+// Kept: README's entries answer these numbers.
 #[derive(Clone, Copy)]
 pub struct ReplayedInPlace {
     pub number: u8,
@@ -54,6 +55,7 @@ pub struct ReplayedInPlace {
 }
 
 // What the entries of a call give, beside the lent slices.
+// Kept: the number is the one that replay gives, which README's entries answer.
 #[derive(Clone, Copy)]
 pub struct ReplayedPort {
     pub number: u8,
@@ -63,30 +65,40 @@ pub struct ReplayedPort {
     pub replay: Replay,
 }
 
-// What stands next, between records: one that runs, an advance that is due (size 0) or the next record of the capture, with the state of the
-// replay after it and how far the input is consumed then; or the call's end, with its number, where 0 leaves it to the bytes that are left.
+// An advance that is due, or a record of so many bytes.
+#[derive(Clone, Copy)]
+pub enum Run {
+    Advance(Nanos),
+    Record(usize),
+}
+
+// What stands next, between records: what runs, the state of the replay after it, and how far the input is consumed then.
 #[derive(Clone, Copy)]
 pub struct Step {
-    pub runs: bool,
-    pub number: u8,
-    pub by: Nanos,
-    pub size: usize,
+    pub run: Run,
     pub replay: Replay,
     pub at: usize,
 }
 
-// What stands next in a call: records that have so many bytes as a trace, and so many bytes of answers, with the state of the replay after them and how
-// far the input is consumed then; or, with no answers, the call's end, as a step has it.
+// Kept: the number is the one that replay gives, which README's entries answer.
+// A call's end: its number, where 0 leaves it to the bytes that are left, the state of the replay, and how far the input is consumed.
+#[derive(Clone, Copy)]
+pub struct End {
+    pub number: u8,
+    pub replay: Replay,
+    pub at: usize,
+}
+
+// Records, written out: how many bytes they have as a trace and in answers, the state of the replay after them, and how far the input is consumed then.
 #[derive(Clone, Copy)]
 pub struct Stretch {
-    pub number: u8,
     pub len: usize,
     pub answers: usize,
     pub replay: Replay,
     pub at: usize,
 }
 
-// An entry that can be written out: the size of its record, its stamp and the advances before it. Size 0: it can't.
+// An entry that can be written out: the size of its record, its stamp and the advances before it.
 #[derive(Clone, Copy)]
 pub struct Entry {
     pub size: usize,
@@ -94,16 +106,8 @@ pub struct Entry {
     pub due: Due,
 }
 
-// Entries that were written out: where they end in the input, how many bytes they have as a trace and in answers, and the last one's stamp.
-#[derive(Clone, Copy)]
-pub struct Entries {
-    pub at: usize,
-    pub len: usize,
-    pub answers: usize,
-    pub stamp: Stamp,
-}
-
 // The number that is given before a byte is looked at, or 0: 1 to 5, an ended replay's number, 31.
+// Kept: replay gives these numbers as they are, an ended replay's among them.
 fn stops(
     setup: Setup,
     port: Port,
@@ -120,8 +124,7 @@ fn stops(
     if no != 0 && no != 31 {
         return no;
     }
-    let carried = port.carried;
-    if !matches(carried, port.carried_len, state) {
+    if !matches(port.carried, port.carried_len, state) {
         return 5;
     }
     if state.ended != 0 {
@@ -146,17 +149,17 @@ pub fn replay_in_place(
     ensures answers_after { left_in_place result phases.new live.new cells.new answers.new
         ≡ replays setup defaults.now (held_with (held_in port phases.old live.old cells.old) state) input.now answers.old }
     ensures answers_after_2 { left_kept_in_place result phases.new live.new cells.new answers.new
-        ≡ replays_noting setup defaults.now (held_noting (held_in port phases.old live.old cells.old) (moments_of moments) state) input.now answers.old }
+        ≡ replays_noting setup defaults.now (held_noting (held_in port phases.old live.old cells.old) moments.by_slot state) input.now answers.old }
 {
     let number = stops(setup, port, phases, live.len(), defaults, cells, state);
     if number != 0 {
         return ReplayedInPlace {
-            number: number,
+            number,
             consumed: 0,
             written: 0,
-            port: port,
+            port,
             replay: state,
-            moments: moments,
+            moments,
         };
     }
     let table = registers::attributes();
@@ -173,14 +176,12 @@ pub fn replay_in_place(
         input,
         answers,
     );
-    let after = x.port;
-    let moved = x.replay;
     ReplayedInPlace {
         number: x.number,
         consumed: x.consumed,
         written: x.written,
-        port: after,
-        replay: moved,
+        port: x.port,
+        replay: x.replay,
         moments: gathered(moments, phases),
     }
 }
@@ -202,17 +203,17 @@ pub fn replay(
     ensures answers_after { left lent result live.new cells.new answers.new
         ≡ replays setup defaults.now (held_with (held port (lent_of lent statuses) live.old cells.old) state) input.now answers.old }
     ensures answers_after_2 { left_kept lent result live.new cells.new answers.new
-        ≡ replays_noting setup defaults.now (held_noting (held port (lent_of lent statuses) live.old cells.old) (moments_of moments) state) input.now answers.old }
+        ≡ replays_noting setup defaults.now (held_noting (held port (lent_of lent statuses) live.old cells.old) moments.by_slot state) input.now answers.old }
 {
     if 32 < lent {
         return Replayed {
             number: 1,
             consumed: 0,
             written: 0,
-            port: port,
-            statuses: statuses,
+            port,
+            statuses,
             replay: state,
-            moments: moments,
+            moments,
         };
     }
     let mut phases = in_numbers(statuses);
@@ -229,16 +230,13 @@ pub fn replay(
         input,
         answers,
     );
-    let after = x.port;
-    let moved = x.replay;
-    let made = x.moments;
     Replayed {
         number: x.number,
         consumed: x.consumed,
         written: x.written,
-        port: after,
+        port: x.port,
         statuses: in_statuses(phases),
-        replay: moved,
-        moments: made,
+        replay: x.replay,
+        moments: x.moments,
     }
 }

@@ -1,19 +1,18 @@
 // The entries of a call that is not stopped, each in its turn.
-ghost use Rattle.std.specs.Prelude.{◌≡◌, List, [], ◌+◌, ◌≤◌, ◌<◌, length};
-ghost use Rattle.registers.specs.Rows.{masks};
+ghost use Rattle.std.specs.Prelude.{◌≡◌, List, [], ◌+◌, ◌≤◌, ◌<◌, length, Option};
 ghost use Rattle.capture.specs.Lent.{progress_in};
 ghost use Rattle.demand3.specs.Held.{opened, carried_of};
 ghost use Rattle.set_up.specs.Lent.{held_in};
 ghost use Rattle.feed.specs.inner.Calls.{NotRefused, Completes};
 ghost use Rattle.replay_state.specs.inner.Moves.{Tidy};
-ghost use Rattle.readiness.specs.declared.Moment.{Moment};
+ghost use Rattle.times.specs.declared.Nanos.{Nanos};
 ghost use Rattle.replay.specs.Left.{left_noting};
 ghost use Rattle.replay.specs.inner.Noted.{noted_in};
 ghost use Rattle.replay.specs.inner.Calls.{Between, comes_to, took_kind_of, ends_at, carried_on};
 
 use crate::stretching::next_stretch;
 use crate::writing::LONG;
-use crate::{ReplayedPort, Stretch};
+use crate::{End, ReplayedPort};
 use capture::Replay;
 use decode::gathering::{first_bytes, whole_size};
 use feed::closing::{carry_on, nothing_carried};
@@ -29,37 +28,31 @@ fn took_kind(r: Replay, consumed: usize) -> Replay
     requires stamp_len_value { 0 < consumed → r.stamp_len ≡ 4 }
     ensures { result ≡ took_kind_of r consumed }
 {
-    if consumed == 0 {
-        return r;
-    }
-    begin_record(r)
+    if consumed == 0 { r } else { begin_record(r) }
 }
 
 // The end of a call, which runs no record more: what is left of the input begins a record, or none.
-fn ending(dev: Dev, end: Stretch, input: &[u8], w: usize) -> ReplayedPort
+fn ending(dev: Dev, end: End, input: &[u8], w: usize) -> ReplayedPort
     requires tidy { Tidy end.replay }
     requires at_in_bounds { (end.at ≤ length input.now) × (end.at < length input.now → end.replay.stamp_len ≡ 4) }
     ensures { result ≡ ends_at dev end input.now w }
 {
-    let r = end.replay;
     if end.number != 0 {
         return ReplayedPort {
             number: end.number,
             consumed: end.at,
             written: w,
             port: nothing_carried(dev),
-            replay: r,
+            replay: end.replay,
         };
     }
-    let at = end.at;
-    let rest = carry_on(nothing_carried(dev), &input[at..]);
-    let port = rest.port;
+    let rest = carry_on(nothing_carried(dev), &input[end.at..]);
     ReplayedPort {
         number: rest.number,
-        consumed: at + rest.consumed,
+        consumed: end.at + rest.consumed,
         written: w,
-        port: port,
-        replay: took_kind(r, rest.consumed),
+        port: rest.port,
+        replay: took_kind(end.replay, rest.consumed),
     }
 }
 
@@ -76,10 +69,9 @@ fn run_entries(
     input: &[u8],
     answers: &mut [u8],
 ) -> ReplayedPort
-    requires table_value { table.now ≡ masks }
     requires not_refused { NotRefused setup defaults.now (held_in (opened start) phases.old live.old cells.old) }
     requires between { Between begun }
-    ensures answers_after { (kept : List Moment) → left_noting kept result phases.new live.new cells.new answers.new
+    ensures answers_after { (kept : List (Option Nanos)) → left_noting kept result phases.new live.new cells.new answers.new
         ≡ comes_to setup defaults.now (noted_in kept start phases.old live.old cells.old) [] (progress_in begun) input.now answers.old }
     ensures consumed_in_bounds { (result.consumed ≤ length input.now) × (result.written ≤ length answers.old) }
 {
@@ -88,12 +80,12 @@ fn run_entries(
     let mut r = begun;
     let mut at: usize = 0;
     let mut w: usize = 0;
+    // Kept: each turn goes as far as its stretch does, and counts no index.
     loop {
-        let s = next_stretch(r, input, at, answers.len() - w, &mut trace);
-        if s.answers == 0 {
-            return ending(dev, s, input, w);
-        }
-        let len = s.len;
+        let s = match next_stretch(r, input, at, answers.len() - w, &mut trace) {
+            Ok(s) => s,
+            Err(end) => return ending(dev, end, input, w),
+        };
         let end = w + s.answers;
         let fed = run_input(
             table,
@@ -103,11 +95,10 @@ fn run_entries(
             &mut *live,
             defaults,
             &mut *cells,
-            &trace[0..len],
+            &trace[0..s.len],
             &mut answers[w..end],
         );
-        let port = fed.port;
-        dev = port.dev;
+        dev = fed.port.dev;
         r = s.replay;
         at = s.at;
         w = end;
@@ -119,14 +110,10 @@ fn after_record(consumed: usize, rest: ReplayedPort) -> ReplayedPort
     requires { (consumed + rest.consumed < 18446744073709551616) × (8 + rest.written < 18446744073709551616) }
     ensures { result ≡ record { number = rest.number; consumed = consumed + rest.consumed; written = 8 + rest.written; port = rest.port; replay = rest.replay } }
 {
-    let port = rest.port;
-    let replay = rest.replay;
     ReplayedPort {
-        number: rest.number,
         consumed: consumed + rest.consumed,
         written: 8 + rest.written,
-        port: port,
-        replay: replay,
+        ..rest
     }
 }
 
@@ -136,12 +123,11 @@ fn carried_on(port: Port, r: Replay, input: &[u8]) -> ReplayedPort
     ensures { result ≡ carried_on port r input.now }
 {
     let rest = carry_on(port, input);
-    let after = rest.port;
     ReplayedPort {
         number: rest.number,
         consumed: rest.consumed,
         written: 0,
-        port: after,
+        port: rest.port,
         replay: r,
     }
 }
@@ -160,23 +146,20 @@ fn run_joined(
     input: &[u8],
     answers: &mut [u8],
 ) -> ReplayedPort
-    requires table_value { table.now ≡ masks }
     requires not_refused { NotRefused setup defaults.now (held_in port phases.old live.old cells.old) }
     requires between { Between begun }
     requires carried_len_nonzero { 0 < port.carried_len }
     requires completes { Completes port input.now (length answers.old) size }
-    ensures { (kept : List Moment) → left_noting kept result phases.new live.new cells.new answers.new
+    ensures { (kept : List (Option Nanos)) → left_noting kept result phases.new live.new cells.new answers.new
         ≡ comes_to setup defaults.now (noted_in kept port.dev phases.old live.old cells.old) (carried_of port) (progress_in begun) input.now answers.old }
 {
-    let dev = port.dev;
-    let carried = port.carried;
     let len = port.carried_len;
     let missing = size - len;
-    let bytes = first_bytes(&carried, len, input, size);
+    let bytes: [u8; 17] = first_bytes(&port.carried, len, input, size);
     let first = run_input(
         table,
         setup,
-        dev,
+        port.dev,
         &mut *phases,
         &mut *live,
         defaults,
@@ -184,11 +167,10 @@ fn run_joined(
         &bytes[0..size],
         &mut answers[0..8],
     );
-    let between = first.port;
     let rest = run_entries(
         table,
         setup,
-        between.dev,
+        first.port.dev,
         begun,
         phases,
         live,
@@ -213,21 +195,18 @@ pub fn run_capture(
     input: &[u8],
     answers: &mut [u8],
 ) -> ReplayedPort
-    requires table_value { table.now ≡ masks }
     requires not_refused { NotRefused setup defaults.now (held_in port phases.old live.old cells.old) }
     requires between { Between begun }
-    ensures { (kept : List Moment) → left_noting kept result phases.new live.new cells.new answers.new
+    ensures { (kept : List (Option Nanos)) → left_noting kept result phases.new live.new cells.new answers.new
         ≡ comes_to setup defaults.now (noted_in kept port.dev phases.old live.old cells.old) (carried_of port) (progress_in begun) input.now answers.old }
 {
     let len = port.carried_len;
     if len == 0 {
-        let dev = port.dev;
         return run_entries(
-            table, setup, dev, begun, phases, live, defaults, cells, input, answers,
+            table, setup, port.dev, begun, phases, live, defaults, cells, input, answers,
         );
     }
-    let carried = port.carried;
-    let size = whole_size(&carried, len, input, answers.len());
+    let size = whole_size(&port.carried, len, input, answers.len());
     if size == 0 {
         return carried_on(port, begun, input);
     }

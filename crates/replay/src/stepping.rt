@@ -1,97 +1,80 @@
 // What stands next, between records: an advance or a record.
 ghost use Rattle.std.specs.Prelude.{◌≡◌, List, ◌∷◌, ℕ, ◌≤◌, ◌<◌, length, drop};
 ghost use Rattle.times.specs.declared.Nanos.{Nanos};
-ghost use Rattle.capture.specs.Advances.{due as due_at};
-ghost use Rattle.capture.specs.Lent.{progress_in, replay_of};
-ghost use Rattle.replay_state.specs.inner.Moves.{Tidy, due_of};
-ghost use Rattle.replay.specs.inner.Steps.{halts, step_at_advances, step_at_record, step_after_stamp, step_of};
+ghost use Rattle.capture.specs.Lent.{progress_in};
+ghost use Rattle.replay_state.specs.inner.Moves.{Tidy};
+ghost use Rattle.replay.specs.inner.Steps.{step_at_advances, step_at_record, step_after_stamp, step_of};
 
-use crate::Step;
+use crate::{End, Run, Step};
 use capture::Replay;
 use decode::gathering::whole_size;
-use replay_state::Due;
 use replay_state::advancing::{checked, due_of};
 use replay_state::stamps::{begin_record, ended_with, one_answered, with_stamp};
+use times::Nanos;
 
-// The call ends here.
-fn halt(number: u8, r: Replay, at: usize) -> Step
-    requires { Tidy r }
-    ensures { result ≡ halts number (progress_in r) at }
-{
-    Step {
-        runs: false,
-        number: number,
-        by: times::nanos_of(0),
-        size: 0,
-        replay: r,
-        at: at,
-    }
-}
-
-// The next advance that is due runs, if there is room for its answer.
-fn advance_step(r: Replay, due: Due, at: usize, space: usize) -> Step
+// An advance that is due runs, if there is room for its answer.
+#[tactic(auto, using(crate::proofs::ByStep::halted), unfolding(crate::specs::inner::Steps::step_at_advances))]
+fn advance_step(r: Replay, by: Nanos, at: usize, space: usize) -> Result<Step, End>
     requires tidy { Tidy r }
-    requires due_value { due ≡ due_of (due_at (progress_in r).earlier (progress_in r).stamp) }
-    requires answered_lt_count { r.answered < due.count }
-    ensures { (rest : List ℕ) → result ≡ step_at_advances (drop r.answered (due_at (progress_in r).earlier (progress_in r).stamp)) (progress_in r) space at rest }
+    requires answered_bound { r.answered ≤ 1 }
+    ensures { (more : List Nanos) → (rest : List ℕ) → result ≡ step_at_advances (by ∷ more) (progress_in r) space at rest }
 {
     if space < 8 {
-        return halt(30, r, at);
+        return Err(End {
+            number: 30,
+            replay: r,
+            at,
+        });
     }
-    let by = if r.answered == 0 {
-        due.first
-    } else {
-        due.second
-    };
-    Step {
-        runs: true,
-        number: 0,
-        by: by,
-        size: 0,
+    Ok(Step {
+        run: Run::Advance(by),
         replay: one_answered(r),
-        at: at,
-    }
+        at,
+    })
 }
 
 // The record at `at` runs, if it is whole and there is room for its answer.
-fn record_step(r: Replay, input: &[u8], at: usize, space: usize) -> Step
+fn record_step(r: Replay, input: &[u8], at: usize, space: usize) -> Result<Step, End>
     requires tidy { Tidy r }
     requires stamp_len_value { (r.stamp_len ≡ 4) × (at ≤ length input.now) }
     ensures { result ≡ step_at_record (progress_in r) space at (drop at input.now) }
 {
     let size = whole_size(input, 0, &input[at..], space);
     if size == 0 {
-        return halt(0, r, at);
+        return Err(End {
+            number: 0,
+            replay: r,
+            at,
+        });
     }
-    Step {
-        runs: true,
-        number: 0,
-        by: times::nanos_of(0),
-        size: size,
+    Ok(Step {
+        run: Run::Record(size),
         replay: begin_record(r),
         at: at + size,
-    }
+    })
 }
 
 // What stands next after the stamp, at the kind byte.
-fn kind_step(r: Replay, input: &[u8], at: usize, space: usize) -> Step
+fn kind_step(r: Replay, input: &[u8], at: usize, space: usize) -> Result<Step, End>
     requires tidy { Tidy r }
     requires stamp_len_value { (r.stamp_len ≡ 4) × (at < length input.now) }
     ensures { result ≡ step_after_stamp (progress_in r) space at (drop at input.now) }
 {
-    let number = checked(r, input[at]);
-    if number != 0 {
-        return halt(number, ended_with(r, number), at);
+    if let Some(number) = checked(r, input[at]) {
+        return Err(End {
+            number,
+            replay: ended_with(r, number),
+            at,
+        });
     }
-    let due = due_of(r);
-    if r.answered < due.count {
-        return advance_step(r, due, at, space);
+    match due_of(r).after(r.answered) {
+        Some(by) => advance_step(r, by, at, space),
+        None => record_step(r, input, at, space),
     }
-    record_step(r, input, at, space)
 }
 
 // What stands next: the stamp's bytes are taken, and then comes the kind byte, or nothing.
-pub fn next_step(r: Replay, input: &[u8], at: usize, space: usize) -> Step
+pub fn next_step(r: Replay, input: &[u8], at: usize, space: usize) -> Result<Step, End>
     requires tidy { Tidy r }
     requires stamp_len_bound { (r.stamp_len ≤ 4) × (at ≤ length input.now) }
     ensures { result ≡ step_of (progress_in r) space at input.now }
@@ -99,7 +82,11 @@ pub fn next_step(r: Replay, input: &[u8], at: usize, space: usize) -> Step
     let t = with_stamp(r, input, at);
     let next = at + (t.stamp_len - r.stamp_len);
     if next == input.len() {
-        return halt(0, t, next);
+        return Err(End {
+            number: 0,
+            replay: t,
+            at: next,
+        });
     }
     kind_step(t, input, next, space)
 }

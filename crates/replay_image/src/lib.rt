@@ -8,9 +8,8 @@ ghost use Rattle.std.proofs.lemmas.List.Edits.{sets};
 ghost use Rattle.state_layout.specs.Image.{up_to};
 ghost use Rattle.replay_image.specs.Image.{earlier_number, replay_bytes, is_good, earlier_in, stamp_bytes_in, replay_in};
 
-use bits::u64_of_u32;
 use capture::Replay;
-use state_image::numbers::{byte_at, four_at, put, put_bool, put_four, size_of_byte};
+use state_image::numbers::{byte_at, four_at, put, put_bool, put_four};
 use state_image::state::{is_yes, is_yes_or_no, shown};
 use ticks::Stamp;
 
@@ -31,14 +30,14 @@ fn up_to(count: usize, stamp: [u8; 4]) -> [u8; 4]
 
 // ---- Writing
 
-// The earlier stamp; 0 where no record was begun.
+// The earlier stamp; 0 where there is none.
 fn earlier_number(r: Replay) -> u64
     ensures { result ≡ earlier_number r }
 {
-    if r.begun {
-        return u64_of_u32(ticks::stamp_number(r.earlier));
+    match r.earlier {
+        Some(stamp) => u64::from(ticks::stamp_number(stamp)),
+        None => 0,
     }
-    0
 }
 
 // Four bytes, from the seventh on.
@@ -56,7 +55,7 @@ pub fn put_replay(bytes: &mut [u8], r: Replay)
     ensures { bytes.new ≡ sets bytes.old 0 (replay_bytes r) }
 {
     let stamp = r.stamp;
-    put_bool(&mut *bytes, 0, r.begun);
+    put_bool(&mut *bytes, 0, r.earlier.is_some());
     put_four(&mut *bytes, 1, earlier_number(r));
     put(&mut *bytes, 5, (r.stamp_len % 256) as u8);
     put_stamp(&mut *bytes, up_to(r.stamp_len, stamp));
@@ -66,21 +65,22 @@ pub fn put_replay(bytes: &mut [u8], r: Replay)
 
 // ---- Reading
 
-// Begun is yes or no; any other byte may be lent.
+// Whether there is an earlier stamp is yes or no; any other byte may be lent.
 pub fn is_good_image(bytes: &[u8]) -> bool
     ensures { result ≡ is_good bytes.now }
 {
     is_yes_or_no(bytes, 0)
 }
 
-// An earlier stamp where no record was begun is ignored.
-fn earlier_in(bytes: &[u8]) -> Stamp
+// An earlier stamp is ignored where there is none.
+fn earlier_in(bytes: &[u8]) -> Option<Stamp>
     ensures { result ≡ earlier_in bytes.now }
 {
     if is_yes(bytes, 0) {
-        return ticks::stamp_of(four_at(bytes, 1));
+        Some(ticks::stamp_of(four_at(bytes, 1)))
+    } else {
+        None
     }
-    ticks::stamp_of(0)
 }
 
 // The stamp's bytes; those past the count are ignored.
@@ -93,7 +93,7 @@ fn stamp_bytes_in(bytes: &[u8]) -> [u8; 4]
         byte_at(bytes, 8),
         byte_at(bytes, 9),
     ];
-    up_to(size_of_byte(byte_at(bytes, 5)), stamp)
+    up_to(usize::from(byte_at(bytes, 5)), stamp)
 }
 
 // The replay's state.
@@ -101,9 +101,8 @@ pub fn replay_in(bytes: &[u8]) -> Replay
     ensures { result ≡ replay_in bytes.now }
 {
     Replay {
-        begun: is_yes(bytes, 0),
         earlier: earlier_in(bytes),
-        stamp_len: size_of_byte(byte_at(bytes, 5)),
+        stamp_len: usize::from(byte_at(bytes, 5)),
         stamp: stamp_bytes_in(bytes),
         answered: byte_at(bytes, 10),
         ended: byte_at(bytes, 11),

@@ -1,11 +1,11 @@
 -- Q-7 AT THE BENCH, proved as specs/KeepingMoments.antt states it.
+use Rattle.times.specs.declared.Nanos.{Nanos}
+use Rattle.std.specs.Prelude.{Option, Some}
 use Prim.Native.Nat.{ℕ}
 use mathlib.Core.Path.{◌≡◌, refl, ap, sym, ◌∙◌}
 use mathlib.Core.List.{List, [], ◌∷◌, ◌++◌}
 use lib.ListN.{set}
 use Rattle.trace.specs.Calls.{Call, no_call, before}
-use Rattle.readiness.specs.declared.Moment.{Moment}
-use Rattle.readiness.specs.declared.Moment.TheVariants.{At}
 use Rattle.readiness.specs.declared.Setup.{Setup}
 use Rattle.readiness.specs.Events.{Event}
 use Rattle.readiness.specs.MadeReady.{noted}
@@ -20,13 +20,13 @@ use Rattle.demand3.proofs.StateKept.{Good, keeps}
 use Rattle.replay_rules.specs.KeepingMoments.{notes_in, HeldNoting, replays_noting, replay_calls_noting, Q7}
 
 -- moments noted one after the other
-pub noted_append : (es fs : List Event) (l : List Moment) → noted (es ++ fs) l ≡ noted fs (noted es l)
+pub noted_append : (es fs : List Event) (l : List (Option Nanos)) → noted (es ++ fs) l ≡ noted fs (noted es l)
 unfolding noted
 noted_append [] fs l = refl
-noted_append (e ∷ es) fs l = noted_append es fs (set l e.slot (At e.time))
+noted_append (e ∷ es) fs l = noted_append es fs (set l e.slot (Some e.time))
 
 -- record by record, they are those of all slots that the records make Ready
-pub noted_over : (setup : Setup) (defaults : List ℕ) (s : State) (rs : List (List ℕ)) (l : List Moment)
+pub noted_over : (setup : Setup) (defaults : List ℕ) (s : State) (rs : List (List ℕ)) (l : List (Option Nanos))
     → kept_over (device setup defaults) (notes_in setup defaults) s rs l ≡ noted (readied_over setup defaults s rs) l
 unfolding kept_over readied_over noted
 noted_over setup defaults s [] l = refl

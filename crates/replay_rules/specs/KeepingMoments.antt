@@ -1,10 +1,10 @@
 -- Q-7, at the bench: the replay keeps for each slot the moment at which it last made it Ready. What a record makes Ready is `readied` (records/MadeReady),
 -- and `noted` (readiness/MadeReady) keeps it.
-use Rattle.std.specs.Prelude.{ℕ, ◌≡◌, List, [], ◌∷◌}
+use Rattle.times.specs.declared.Nanos.{Nanos}
+use Rattle.std.specs.Prelude.{ℕ, ◌≡◌, List, [], ◌∷◌, Option}
 use Rattle.trace.specs.Bench.{cut}
 use Rattle.trace.specs.Lent.{Lent, Left}
 use Rattle.trace.specs.Calls.{Call, Came, BytesIn, no_call, before}
-use Rattle.readiness.specs.declared.Moment.{Moment}
 use Rattle.readiness.specs.declared.Setup.{Setup}
 use Rattle.readiness.specs.MadeReady.{noted}
 use Rattle.records.specs.State.{State}
@@ -21,18 +21,18 @@ use Rattle.demand3.specs.Compared.{Typed}
 use Rattle.replay_rules.specs.Replaying.{HeldWith, replays}
 
 -- a record notes the slots that it makes Ready, each with its moment
-abbrev pub notes_in : Setup → (defaults : List ℕ) → State → (bytes : List ℕ) → List Moment → List Moment
+abbrev pub notes_in : Setup → (defaults : List ℕ) → State → (bytes : List ℕ) → List (Option Nanos) → List (Option Nanos)
 notes_in setup defaults s bytes l = noted (readied_in setup defaults s bytes) l
 
 -- THE BENCH THAT NOTES
-abbrev pub noting_bench : Setup → (defaults : List ℕ) → Lent (Noting State (List Moment)) (Noting Held (List Moment))
+abbrev pub noting_bench : Setup → (defaults : List ℕ) → Lent (Noting State (List (Option Nanos))) (Noting Held (List (Option Nanos)))
 noting_bench setup defaults = noting_lent (bench setup defaults) (notes_in setup defaults)
 
 -- what goes from call to call: as before, and the moments, one for each slot
 abbrev pub HeldNoting : Type 0
-HeldNoting = HeldOver (Noting Held (List Moment))
+HeldNoting = HeldOver (Noting Held (List (Option Nanos)))
 
-abbrev pub held_noting : Held → List Moment → Replay → HeldNoting
+abbrev pub held_noting : Held → List (Option Nanos) → Replay → HeldNoting
 held_noting h l m = record { port = record { base = h; kept = l }; replay = m }
 
 -- REPLAY, which keeps the moments

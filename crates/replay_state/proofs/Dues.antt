@@ -1,35 +1,30 @@
 -- The advances that are due, case by case.
 use Prim.Native.Nat.{ℕ, ◌≤◌, ◌<◌}
 use mathlib.Core.Path.{◌≡◌, refl, ap, ◌∙◌}
-use mathlib.Core.Bool.{Bool, true, false, not}
+use mathlib.Core.Bool.{Bool, true, false}
 use mathlib.Core.List.{List, [], ◌∷◌}
 use native.Mathlib.Omega.{arith}
 use lib.ListN.{length}
 use lib.Dec.{leb, eqb}
-use borrow.Author.Tests.{not-true, not-false, le-leb, lt-leb, eq-eqb, ne_eqb}
+use borrow.Author.Tests.{le-leb, lt-leb, eq-eqb, ne_eqb}
+use Rattle.std.specs.Prelude.{None, Some}
 use Rattle.times.specs.declared.Nanos.{Nanos}
 use Rattle.ticks.specs.declared.Stamp.{Stamp}
 use Rattle.ticks.specs.Ticks.{difference, went_back, in_nanos}
 use Rattle.trace.specs.Format.{when◌then◌else◌}
 use Rattle.trace.proofs.Tests.{if_true, if_false}
-use Rattle.capture.specs.declared.Replay.{Replay}
-use Rattle.capture.specs.Advances.{stamp_in, Earlier, none, was, back, longest_advance, rest, advances, between, due}
-use Rattle.capture.specs.Lent.{progress_in}
-use Rattle.replay_state.specs.inner.Moves.{due_of}
-
--- ---- the stamp before
-pub no_earlier : (r : Replay) → not r.begun ≡ true → (progress_in r).earlier ≡ none
-no_earlier r h = if_false r.begun _ _ (not-true r.begun h)
-
-pub the_earlier : (r : Replay) → not r.begun ≡ false → (progress_in r).earlier ≡ was r.earlier
-the_earlier r h = if_true r.begun _ _ (not-false r.begun h)
+use Rattle.capture.specs.Advances.{stamp_in, Earlier, back, longest_advance, rest, advances, between, due}
+use Rattle.capture.proofs.Advancing.{due_few}
+use Rattle.replay_state.specs.declared.Due.{Due}
+use Rattle.replay_state.specs.declared.Due.TheVariants.{Nothing, One, Two}
+use Rattle.replay_state.specs.inner.Moves.{due_of, advances_in}
 
 -- ---- the recorder went back
-pub first-stays : (e : Earlier) (s : Stamp) → e ≡ none → back e s ≡ false
+pub first-stays : (e : Earlier) (s : Stamp) → e ≡ None → back e s ≡ false
 unfolding back
 first-stays e s h = ap (λ (x : Earlier). back x s) h
 
-pub later_went : (e : Earlier) (s s' : Stamp) → e ≡ was s → back e s' ≡ went_back (difference s s')
+pub later_went : (e : Earlier) (s s' : Stamp) → e ≡ Some s → back e s' ≡ went_back (difference s s')
 unfolding back
 later_went e s s' h = ap (λ (x : Earlier). back x s') h
 
@@ -52,7 +47,7 @@ pub too_short : (e : Earlier) (stamp : List ℕ) → (length stamp ≡ 4 → ⊥
 unfolding due
 too_short e stamp h = if_false (eqb (length stamp) 4) _ _ (ne_eqb (length stamp) 4 h)
 
-pub the_first : (e : Earlier) (stamp : List ℕ) → e ≡ none → due e stamp ≡ []
+pub the_first : (e : Earlier) (stamp : List ℕ) → e ≡ None → due e stamp ≡ []
 unfolding due back between
 the_first e stamp h = rw h (same (eqb (length stamp) 4))
   where
@@ -60,20 +55,31 @@ the_first e stamp h = rw h (same (eqb (length stamp) 4))
     same true = refl
     same false = refl
 
-pub gone_back : (e : Earlier) (stamp : List ℕ) → length stamp ≡ 4 → back e (stamp_in stamp) ≡ true → due e stamp ≡ []
-unfolding due
-gone_back e stamp l h = if_true (eqb (length stamp) 4) _ _ (eq-eqb (length stamp) 4 l) ∙ if_true (back e (stamp_in stamp)) _ _ h
+pub gone_back : (e : Earlier) (s : Stamp) (stamp : List ℕ) → length stamp ≡ 4 → e ≡ Some s → went_back (difference s (stamp_in stamp)) ≡ true → due e stamp ≡ []
+unfolding due back
+gone_back e s stamp l q h =
+    if_true (eqb (length stamp) 4) _ _ (eq-eqb (length stamp) 4 l) ∙ rw q (if_true (went_back (difference s (stamp_in stamp))) _ _ h)
 
-pub gone_on : (e : Earlier) (s : Stamp) (stamp : List ℕ) → length stamp ≡ 4 → e ≡ was s → went_back (difference s (stamp_in stamp)) ≡ false
+pub gone_on : (e : Earlier) (s : Stamp) (stamp : List ℕ) → length stamp ≡ 4 → e ≡ Some s → went_back (difference s (stamp_in stamp)) ≡ false
     → due e stamp ≡ advances (in_nanos (difference s (stamp_in stamp)))
 unfolding due back between
 gone_on e s stamp l q h =
     if_true (eqb (length stamp) 4) _ _ (eq-eqb (length stamp) 4 l)
     ∙ rw q (if_false (went_back (difference s (stamp_in stamp))) _ _ h)
 
--- ---- the count that the code holds
-pub count_is : (xs : List Nanos) → length xs ≤ 2 → (due_of xs).count ≡ length xs
-count_is [] h = refl
-count_is (t ∷ []) h = refl
-count_is (t ∷ u ∷ []) h = refl
-count_is (t ∷ u ∷ v ∷ more) h = absurd (omega arith)
+-- ---- the advances that the code holds
+pub advances-held : (ts : List Nanos) → length ts ≤ 2 → advances_in (due_of ts) ≡ ts
+advances-held [] h = refl
+advances-held (t ∷ []) h = refl
+advances-held (t ∷ u ∷ []) h = refl
+advances-held (t ∷ u ∷ v ∷ more) h = absurd (omega arith)
+
+-- of a stamp they are those that are due
+pub dues_held : (e : Earlier) (stamp : List ℕ) → advances_in (due_of (due e stamp)) ≡ due e stamp
+dues_held e stamp = advances-held (due e stamp) (due_few e stamp)
+
+-- and at most two
+pub few_held : (d : Due) → length (advances_in d) ≤ 2
+few_held Nothing = omega arith
+few_held (One t) = omega arith
+few_held (Two t u) = omega arith

@@ -7,13 +7,14 @@ use native.Mathlib.Omega.{arith}
 use lib.ListN.{length, get_or, take}
 use lib.Dec.{leb, eqb}
 use borrow.Author.Tests.{le-leb, lt-leb, eq-eqb, ne_eqb}
+use Rattle.std.specs.Prelude.{is_some}
 use Rattle.bits.proofs.Tests.{truth}
 use Rattle.trace.specs.Format.{when◌then◌else◌}
 use Rattle.capture.specs.declared.Replay.{Replay}
 use Rattle.capture.specs.Advances.{stamp_in, back, due}
 use Rattle.capture.specs.Replay.{Progress, end_fits, matches}
 use Rattle.capture.specs.Lent.{progress_in, stamp_fits}
-use Rattle.replay_state.proofs.Moves.{some_earlier, bytes_there}
+use Rattle.replay_state.proofs.Moves.{bytes_there}
 
 -- ---- the number that ended it
 module _ (p : Progress) where
@@ -61,12 +62,11 @@ module _ (r : Replay) where
     -- some
     pub in_record : (c : List ℕ) (len : ℕ) → 0 < length c → (len ≡ 0 → ⊥)
         → (stamp_fits r && matches (take len c) (progress_in r))
-        ≡ (r.begun && eqb r.stamp_len 0 && eqb r.answered 0 && eqb r.ended 0 && not (eqb (get_or c 0 0) 1))
+        ≡ (is_some r.earlier && eqb r.stamp_len 0 && eqb r.answered 0 && eqb r.ended 0 && not (eqb (get_or c 0 0) 1))
     unfolding matches
     in_record c zero g e = absurd (e refl)
     in_record [] (suc n) g e = absurd (omega arith)
     in_record (k ∷ c) (suc n) g e =
         ap (λ (t : Bool). t && matches (k ∷ take n c) (progress_in r)) fits
-        ∙ ap (λ (t : Bool). t && (eqb (length (progress_in r).stamp) 0 && (eqb r.answered 0 && (eqb r.ended 0 && not (eqb k 1))))) (sym (some_earlier r.begun r.earlier))
-        ∙ ap (λ (n : ℕ). r.begun && (eqb n 0 && (eqb r.answered 0 && (eqb r.ended 0 && not (eqb k 1))))) (bytes_there r l h)
-        ∙ truth 5 (λ a b c d e. a && (b && (c && (d && e)))) (λ a b c d e. a && b && c && d && e) tt r.begun (eqb r.stamp_len 0) (eqb r.answered 0) (eqb r.ended 0) (not (eqb k 1))
+        ∙ ap (λ (n : ℕ). is_some r.earlier && (eqb n 0 && (eqb r.answered 0 && (eqb r.ended 0 && not (eqb k 1))))) (bytes_there r l h)
+        ∙ truth 5 (λ a b c d e. a && (b && (c && (d && e)))) (λ a b c d e. a && b && c && d && e) tt (is_some r.earlier) (eqb r.stamp_len 0) (eqb r.answered 0) (eqb r.ended 0) (not (eqb k 1))

@@ -8,9 +8,10 @@ pub mod stamps; // the bytes of a stamp
 use times::Nanos;
 
 // The advances that are due: none, one or two.
+// Kept: this is a list of at most two, and no Option.
 #[derive(Clone, Copy)]
-pub struct Due {
-    pub count: u8,
-    pub first: Nanos,
-    pub second: Nanos,
+pub enum Due {
+    Nothing,
+    One(Nanos),
+    Two(Nanos, Nanos),
 }

@@ -7,32 +7,36 @@ use crate::advancing::{due_of, goes_back};
 use capture::Replay;
 
 // Ended is 0; or 32, where the recorder went back, or 33, where it did not, with all 4 bytes of the stamp.
+#[tactic(auto, using(crate::proofs::Moves::bytes_there), unfolding(capture::specs::Replay::end_fits))]
 fn end_fits(r: Replay) -> bool
     requires { r.stamp_len ≤ 4 }
     ensures { result ≡ end_fits (progress_in r) }
 {
     if r.ended == 0 {
-        return true;
+        true
+    } else if r.stamp_len != 4 {
+        false
+    } else if goes_back(r) {
+        r.ended == 32
+    } else {
+        r.ended == 33
     }
-    if r.stamp_len != 4 {
-        return false;
-    }
-    if goes_back(r) {
-        return r.ended == 32;
-    }
-    r.ended == 33
 }
 
 // It matches where the first `len` bytes of `carried` are carried.
+#[tactic(auto, using(crate::proofs::Fits::too_long, crate::proofs::Fits::between_records, crate::proofs::Fits::in_record, crate::proofs::Dues::dues_held))]
 pub fn matches(carried: [u8; 16], len: usize, r: Replay) -> bool
     ensures { result ≡ (stamp_fits r && matches_carried (take len carried) (progress_in r)) }
 {
-    if 4 < r.stamp_len {
-        return false;
+    if r.stamp_len > 4 {
+        false
+    } else if len == 0 {
+        r.answered <= due_of(r).count() && end_fits(r)
+    } else {
+        r.earlier.is_some()
+            && r.stamp_len == 0
+            && r.answered == 0
+            && r.ended == 0
+            && carried[0] != 1
     }
-    if len == 0 {
-        let due = due_of(r);
-        return r.answered <= due.count && end_fits(r);
-    }
-    r.begun & (r.stamp_len == 0) & (r.answered == 0) & (r.ended == 0) & (carried[0] != 1)
 }

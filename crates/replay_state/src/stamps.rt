@@ -6,7 +6,6 @@ ghost use Rattle.capture.specs.Replay.{begins, ended_with, more_answered, fresh 
 ghost use Rattle.capture.specs.Lent.{progress_in, stamp_fits, replay_of};
 ghost use Rattle.replay_state.specs.inner.Moves.{Tidy, more_bytes};
 
-use bits::u32_of_u8;
 use capture::Replay;
 use ticks::Stamp;
 
@@ -15,8 +14,7 @@ pub fn fresh() -> Replay
     ensures { result ≡ replay_of fresh_progress }
 {
     Replay {
-        begun: false,
-        earlier: ticks::stamp_of(0),
+        earlier: None,
         stamp_len: 0,
         stamp: [0u8; 4],
         answered: 0,
@@ -25,44 +23,33 @@ pub fn fresh() -> Replay
 }
 
 // The stamp that four bytes are, low byte first.
+#[tactic(auto, unfolding(capture::specs::Advances::stamp_in))]
 pub fn stamp_in(bytes: [u8; 4]) -> Stamp
     ensures { result ≡ stamp_in bytes }
 {
-    ticks::stamp_of(
-        u32_of_u8(bytes[0])
-            + 256 * u32_of_u8(bytes[1])
-            + 65536 * u32_of_u8(bytes[2])
-            + 16777216 * u32_of_u8(bytes[3]),
-    )
+    ticks::stamp_of(u32::from_le_bytes(bytes))
 }
 
 // The first n bytes, and zeros after them.
+#[tactic(auto, using(crate::proofs::Moves::first_padded))]
 fn first_of(bytes: [u8; 4], n: usize) -> [u8; 4]
     requires { n ≤ 4 }
     ensures { result ≡ pad 4 (take n bytes) }
 {
     let mut first = [0u8; 4];
-    let mut i: usize = 0;
-    while i < n {
-        first[i] = bytes[i];
-        i += 1;
-    }
+    first[..n].copy_from_slice(&bytes[..n]);
     first
 }
 
-// The same state, with 0 where it says nothing: the earlier stamp where no record was taken, and the bytes past those of the stamp.
+// The same state, with 0 where it says nothing: the bytes past those of the stamp.
 pub fn tidy(r: Replay) -> Replay
     requires { stamp_fits r ≡ true }
     ensures { result ≡ replay_of (progress_in r) }
 {
-    let bytes = r.stamp;
-    let stamp = first_of(bytes, r.stamp_len);
-    let mut t = r;
-    t.stamp = stamp;
-    if !r.begun {
-        t.earlier = ticks::stamp_of(0);
+    Replay {
+        stamp: first_of(r.stamp, r.stamp_len),
+        ..r
     }
-    t
 }
 
 // A stamp whose four bytes stand in the input from `at` on.
@@ -81,40 +68,21 @@ pub fn stamp_at(input: &[u8], at: usize) -> Stamp
     stamp_in(whole_stamp(input, at))
 }
 
-// The bytes of the input from `at` on join those of the stamp, byte by byte, until it has four or the input ends.
-fn join_bytes(r: Replay, input: &[u8], at: usize) -> Replay
-    requires tidy { Tidy r }
-    requires stamp_len_bound { (r.stamp_len ≤ 4) × (at ≤ length input.now) }
-    ensures { result ≡ replay_of (more_bytes (take (4 - r.stamp_len) (drop at input.now)) (progress_in r)) }
-{
-    let mut stamp = r.stamp;
-    let mut n = r.stamp_len;
-    let mut j = at;
-    while n < 4 && j < input.len() {
-        stamp[n] = input[j];
-        n += 1;
-        j += 1;
-    }
-    let mut t = r;
-    t.stamp = stamp;
-    t.stamp_len = n;
-    t
-}
-
 // The bytes of the input from `at` on join those of the stamp, until it has four or the input ends.
 pub fn with_stamp(r: Replay, input: &[u8], at: usize) -> Replay
     requires tidy { Tidy r }
     requires stamp_len_bound { (r.stamp_len ≤ 4) × (at ≤ length input.now) }
     ensures { result ≡ replay_of (more_bytes (take (4 - r.stamp_len) (drop at input.now)) (progress_in r)) }
 {
-    if r.stamp_len == 0 && 4 <= input.len() - at {
-        let stamp = whole_stamp(input, at);
-        let mut t = r;
-        t.stamp = stamp;
-        t.stamp_len = 4;
-        return t;
+    let more = (4 - r.stamp_len).min(input.len() - at);
+    let stamp_len = r.stamp_len + more;
+    let mut stamp = r.stamp;
+    stamp[r.stamp_len..stamp_len].copy_from_slice(&input[at..at + more]);
+    Replay {
+        stamp_len,
+        stamp,
+        ..r
     }
-    join_bytes(r, input, at)
 }
 
 // One more advance of the stamp is answered.
@@ -123,10 +91,10 @@ pub fn one_answered(r: Replay) -> Replay
     requires answered_bound { r.answered ≤ 1 }
     ensures { result ≡ replay_of (more_answered 1 (progress_in r)) }
 {
-    let answered = r.answered + 1;
-    let mut t = r;
-    t.answered = answered;
-    t
+    Replay {
+        answered: r.answered + 1,
+        ..r
+    }
 }
 
 // The kind byte is consumed: its stamp is the earlier one from now on.
@@ -135,14 +103,9 @@ pub fn begin_record(r: Replay) -> Replay
     requires stamp_len_value { r.stamp_len ≡ 4 }
     ensures { result ≡ replay_of (begins (progress_in r)) }
 {
-    let bytes = r.stamp;
     Replay {
-        begun: true,
-        earlier: stamp_in(bytes),
-        stamp_len: 0,
-        stamp: [0u8; 4],
-        answered: 0,
         ended: r.ended,
+        ..after_entry(stamp_in(r.stamp))
     }
 }
 
@@ -151,8 +114,7 @@ pub fn after_entry(stamp: Stamp) -> Replay
     ensures { result ≡ replay_of (after_entry stamp) }
 {
     Replay {
-        begun: true,
-        earlier: stamp,
+        earlier: Some(stamp),
         stamp_len: 0,
         stamp: [0u8; 4],
         answered: 0,
@@ -165,7 +127,5 @@ pub fn ended_with(r: Replay, number: u8) -> Replay
     requires { Tidy r }
     ensures { result ≡ replay_of (ended_with number (progress_in r)) }
 {
-    let mut t = r;
-    t.ended = number;
-    t
+    Replay { ended: number, ..r }
 }

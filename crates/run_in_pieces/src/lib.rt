@@ -64,6 +64,7 @@ fn feed_pieces(
     let mut number: u8 = 0;
     let mut consumed: usize = 0;
     let mut written: usize = 0;
+    // Kept: each turn goes as far as its call consumed, and counts no index.
     while consumed < trace.len() && number == 0 {
         let end = consumed + next_piece(size, trace.len() - consumed);
         let fed = feed::feed_lent(

@@ -1,4 +1,6 @@
 -- A score is the totals of all differences, one after the other.
+use Rattle.times.specs.declared.Nanos.{Nanos}
+use Rattle.std.specs.Prelude.{Option, None, Some}
 use Prim.Native.Nat.{ℕ, zero, suc, ◌<◌, min}
 use native.Mathlib.Nat.{min-eq_left}
 use mathlib.Core.Path.{◌≡◌, refl, sym, ap, subst, ◌∙◌}
@@ -12,8 +14,6 @@ use lib.IntN.{ℤ}
 use borrow.Author.Tests.{ltb-true, ltb-false, lt-leb}
 use Rattle.bits.proofs.Choices.{when_true, when_false}
 use Rattle.bits.proofs.Tests.{split}
-use Rattle.readiness.specs.declared.Moment.{Moment}
-use Rattle.readiness.specs.declared.Moment.TheVariants.{Never, At}
 use Rattle.lateness.specs.declared.Lateness.{Lateness}
 use Rattle.lateness.specs.declared.Lateness.TheVariants.{NoDifference, Of, Outside}
 use Rattle.lateness.specs.declared.Report.{Report}
@@ -93,11 +93,11 @@ apart-within : (s b : ℕ) → all_within (given (apart s b)) ≡ true
 unfolding apart
 apart-within s b = apart_by (minus s b) (within (minus s b)) refl
 
-lateness_within : (b s : Moment) → all_within (given (lateness_of b s)) ≡ true
+lateness_within : (b s : Option Nanos) → all_within (given (lateness_of b s)) ≡ true
 unfolding lateness_of all_within given
-lateness_within Never s = refl
-lateness_within (At b) Never = refl
-lateness_within (At b) (At s) = apart-within s.0 b.0
+lateness_within None s = refl
+lateness_within (Some b) None = refl
+lateness_within (Some b) (Some s) = apart-within s.0 b.0
 
 of_within : (slots : ℕ) (c : Captured) (n : ℕ) → all_within (differences_of slots c n) ≡ true
 unfolding differences_of all_within difference_at

@@ -5,18 +5,15 @@ ghost use Rattle.score.specs.Scores.{is_of, pick, chosen, total_of, capture_tota
 
 use crate::Collected;
 use crate::collecting::{collect, next_count, nothing_collected, put_value};
-use bits::at_most;
 use lateness::{Report, totals};
 use readiness::Moments;
 
 // Whether the difference at a place is of the slot.
+#[tactic(auto, unfolding(crate::specs::Scores::is_of))]
 fn is_of(of: &[usize], at: usize, slot: usize) -> bool
     ensures { result ≡ is_of of.now at slot }
 {
-    if at < of.len() {
-        return of[at] == slot;
-    }
-    false
+    at < of.len() && of[at] == slot
 }
 
 // A difference is put after those that were chosen, if it is of the slot.
@@ -25,9 +22,10 @@ fn pick_if(list: &mut [i64], count: usize, applies: bool, d: i64) -> usize
 {
     if applies {
         put_value(list, count, d);
-        return next_count(count);
+        next_count(count)
+    } else {
+        count
     }
-    count
 }
 
 // The differences of one slot, from the start of a list that is lent: how many there are.
@@ -35,11 +33,9 @@ pub fn choose(values: &[i64], of: &[usize], slot: usize, list: &mut [i64]) -> us
     ensures { record { count = result; list = list.new } ≡ chosen values.now of.now slot (length values.now) (record { count = 0; list = list.old }) }
 {
     let mut count: usize = 0;
-    let mut i: usize = 0;
-    while i < values.len() {
+    for i in 0..values.len() {
         let d = values[i];
         count = pick_if(&mut *list, count, is_of(of, i, slot), d);
-        i += 1;
     }
     count
 }
@@ -49,7 +45,7 @@ fn no_totals(number: u8) -> Report
     ensures { result ≡ refused number }
 {
     Report {
-        number: number,
+        number,
         early: 0,
         on_time: 0,
         late: 0,
@@ -66,7 +62,7 @@ pub fn total(values: &[i64], c: Collected) -> Report
     if c.outside {
         return no_totals(34);
     }
-    let n = at_most(c.count, values.len());
+    let n = c.count.min(values.len());
     totals(&values[0..n])
 }
 

@@ -3,7 +3,7 @@ ghost use Rattle.std.specs.Prelude.{◌≡◌, false, set};
 ghost use Rattle.score.specs.Scores.{next_count, difference_at, Lists, lists, kept, with_difference, collected};
 
 use crate::Collected;
-use lateness::{Lateness, bench_time, number_of, of_slot, value_of};
+use lateness::{Lateness, bench_time, of_slot};
 use readiness::Moments;
 
 pub fn nothing_collected() -> Collected
@@ -23,6 +23,7 @@ pub fn difference_at(slots: usize, bench: Moments, seen: Moments, slot: usize) -
 }
 
 // One more, up to 9,001.
+#[tactic(auto, unfolding(crate::specs::Scores::next_count))]
 pub fn next_count(count: usize) -> usize
     ensures { result ≡ next_count count }
 {
@@ -59,6 +60,7 @@ fn keep(values: &mut [i64], of: &mut [usize], c: Collected, slot: usize, d: i64)
 }
 
 // The difference of a slot, if there is one, is put after those that were collected; one that is refused is noted.
+#[tactic(auto, unfolding(crate::specs::Scores::with_difference))]
 fn with_difference(
     values: &mut [i64],
     of: &mut [usize],
@@ -68,13 +70,10 @@ fn with_difference(
 ) -> Collected
     ensures { lists result values.new of.new ≡ with_difference slot d (lists c values.old of.old) }
 {
-    let n = number_of(d);
-    if n == 1 {
-        return keep(values, of, c, slot, value_of(d));
-    }
-    Collected {
-        count: c.count,
-        outside: (n == 34) | c.outside,
+    match d {
+        Lateness::NoDifference => c,
+        Lateness::Of(value) => keep(values, of, c, slot, value),
+        Lateness::Outside => Collected { outside: true, ..c },
     }
 }
 
@@ -90,11 +89,9 @@ pub fn collect(
     ensures { lists result values.new of.new ≡ collected slots bench seen 32 (lists before values.old of.old) }
 {
     let mut c = before;
-    let mut i: usize = 0;
-    while i < 32 {
+    for i in 0..32 {
         let d = difference_at(slots, bench, seen, i);
         c = with_difference(&mut *values, &mut *of, c, i, d);
-        i += 1;
     }
     c
 }

@@ -13,6 +13,9 @@ use Rattle.demand3.specs.Held.{Held, state_of}
 use Rattle.demand3.specs.Refusals.{lengths_fit, queue_fits, all_codes_allowed, all_defaults_allowed, first_failed, set_up_tests, set_up_refusal, sound_carried, sound_held}
 use Rattle.demand3.specs.Feeding.{bench}
 use Rattle.demand3.proofs.Refusals.{fits_of}
+use Rattle.set_up.specs.declared.Refusal.{Refusal}
+use Rattle.set_up.specs.declared.Refusal.TheVariants.{Lengths, Queue, Codes, Defaults, Unsound, Broken}
+use Rattle.set_up.specs.Refused.{number_of}
 
 -- ---- more statuses than a card can have slots
 pub too_many : (setup : Setup) (defaults : List ℕ) (h : Held) → 32 < length h.statuses → 1 ≡ set_up_refusal setup defaults h
@@ -22,6 +25,15 @@ too_many setup defaults h m = by (lengths_fit setup.slots (length h.statuses) (l
     by : (b : Bool) → lengths_fit setup.slots (length h.statuses) (length h.live) (length defaults) ≡ b → 1 ≡ set_up_refusal setup defaults h
     by true e = let f = fits_of _ _ _ _ e in absurd (omega (arith, f.most, f.per_slot))
     by false e = sym (ap (λ (b : Bool). cond b (first_failed (record { number = 2; holds = queue_fits (length h.cells) } ∷ record { number = 3; holds = all_codes_allowed setup } ∷ record { number = 4; holds = all_defaults_allowed setup defaults } ∷ [])) 1) e)
+
+-- a refusal has a number
+pub some_number : (why : Refusal) → number_of why ≡ 0 → ⊥
+some_number Lengths e = omega arith
+some_number Queue e = omega arith
+some_number Codes e = omega arith
+some_number Defaults e = omega arith
+some_number Unsound e = omega arith
+some_number Broken e = omega arith
 
 -- ---- the first number that applies
 module _ (setup : Setup) (defaults : List ℕ) (h : Held) where

@@ -1,2 +1,3 @@
 pub mod Prepared
 pub mod Lent
+pub mod Refused

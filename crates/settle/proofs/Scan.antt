@@ -1,4 +1,5 @@
 -- One slot that is due or not, and the first of all that are due.
+use Rattle.std.specs.Prelude.{None, Some}
 use Prim.Native.Nat.{ℕ, ◌≤◌, ◌<◌}
 use native.Mathlib.Omega.{arith}
 use mathlib.Core.Path.{◌≡◌, refl, sym, ap, subst, ◌∙◌}
@@ -16,11 +17,8 @@ use Rattle.readiness.specs.declared.Phase.{Phase}
 use Rattle.readiness.specs.declared.Phase.TheVariants.{Down, Pending, Ready}
 use Rattle.readiness.specs.declared.Status.{Status}
 use Rattle.readiness.specs.declared.Slot.{Slot}
-use Rattle.settle.specs.declared.Due.TheVariants.{Nothing, At}
 use Rattle.readiness.specs.Status.{ready}
 use Rattle.readiness.specs.Root.{frs_arrive}
-use Rattle.readiness.specs.declared.Moment.TheVariants as moment
-use Rattle.readiness.specs.declared.Moment.TheVariants.{Never}
 use Rattle.readiness.specs.MadeReady.{made_by}
 use Rattle.readiness.specs.Events.{Event, reached, due_event, due, frs_of_slot}
 use Rattle.settle.specs.inner.Next.{first_due}
@@ -30,49 +28,49 @@ use Rattle.readiness.proofs.Laws.{InOrder, due_order, due_unique}
 use Rattle.readiness.specs.inner.OneSlot.{SlotScene, slot_happens, slot_settles}
 
 -- nothing is due where there is no first
-pub none_due : (l : List Event) → first_due l ≡ Nothing → l ≡ []
+pub none_due : (l : List Event) → first_due l ≡ None → l ≡ []
 none_due [] e = refl
 none_due (f ∷ l) e = let z : ◌≡◌ {A = ℕ} 0 1 = cc in absurd (omega arith)
 
 -- a Pending slot is due by the test of its ready time
 pub due_by_lem :
     (clock : Nanos) (slot : ℕ) (p : Phase) (cause : Cause) (t : Nanos) (b : Bool) →
-    p ≡ Pending cause t → b ≡ reached clock t → first_due (due_event clock slot p) ≡ cond b (At slot cause t) Nothing
-due_by_lem clock slot p cause t b e f = ap (λ (q : Phase). first_due (due_event clock slot q)) e ∙ first (reached clock t) ∙ ap (λ (q : Bool). cond q (At slot cause t) Nothing) (sym f)
+    p ≡ Pending cause t → b ≡ reached clock t → first_due (due_event clock slot p) ≡ cond b (Some (cause, t)) None
+due_by_lem clock slot p cause t b e f = ap (λ (q : Phase). first_due (due_event clock slot q)) e ∙ first (reached clock t) ∙ ap (λ (q : Bool). cond q (Some (cause, t)) None) (sym f)
   where
-    first : (q : Bool) → first_due (cond q (record { slot = slot; cause = cause; time = t } ∷ []) []) ≡ cond q (At slot cause t) Nothing
+    first : (q : Bool) → first_due (cond q (record { slot = slot; cause = cause; time = t } ∷ []) []) ≡ cond q (Some (cause, t)) None
     first true = refl
     first false = refl
 
 -- one slot that is not due stays as it is
-pub slot_stays : (bus : ℕ) (entry : Slot) (slot : ℕ) (x : SlotScene) → first_due (due_event x.root.dev.clock slot x.status.phase) ≡ Nothing → slot_settles bus entry slot x ≡ x
+pub slot_stays : (bus : ℕ) (entry : Slot) (slot : ℕ) (x : SlotScene) → first_due (due_event x.root.dev.clock slot x.status.phase) ≡ None → slot_settles bus entry slot x ≡ x
 unfolding slot_settles
 slot_stays bus entry slot x e = ap (slot_happens bus entry x) (none_due (due_event x.root.dev.clock slot x.status.phase) e)
 
 -- one slot that is due becomes Ready
 pub slot_readies :
-    (bus : ℕ) (entry : Slot) (slot : ℕ) (x : SlotScene) (i : ℕ) (cause : Cause) (t : Nanos) →
-    first_due (due_event x.root.dev.clock slot x.status.phase) ≡ At i cause t →
+    (bus : ℕ) (entry : Slot) (slot : ℕ) (x : SlotScene) (cause : Cause) (t : Nanos) →
+    first_due (due_event x.root.dev.clock slot x.status.phase) ≡ Some (cause, t) →
     slot_settles bus entry slot x ≡ record { status = ready; root = frs_arrive (frs_of_slot bus entry slot cause) x.root }
 unfolding slot_settles
-slot_readies bus entry slot x i cause t e = go x.status.phase e
+slot_readies bus entry slot x cause t e = go x.status.phase e
   where
-    at : (b : Bool) (d : Cause) (u : Nanos) → first_due (cond b (record { slot = slot; cause = d; time = u } ∷ []) []) ≡ At i cause t → slot_happens bus entry x (cond b (record { slot = slot; cause = d; time = u } ∷ []) []) ≡ record { status = ready; root = frs_arrive (frs_of_slot bus entry slot cause) x.root }
-    at true d u q = let s : d ≡ cause = cc in ap (λ (v : Cause). record { status = ready; root = frs_arrive (frs_of_slot bus entry slot v) x.root }) s
+    at : (b : Bool) (d : Cause) (u : Nanos) → first_due (cond b (record { slot = slot; cause = d; time = u } ∷ []) []) ≡ Some (cause, t) → slot_happens bus entry x (cond b (record { slot = slot; cause = d; time = u } ∷ []) []) ≡ record { status = ready; root = frs_arrive (frs_of_slot bus entry slot cause) x.root }
+    at true d u q = let s : ◌≡◌ {A = Cause × Nanos} (d, u) (cause, t) = cc in ap (λ (v : Cause × Nanos). record { status = ready; root = frs_arrive (frs_of_slot bus entry slot v.0) x.root }) s
     at false d u q = let z : ◌≡◌ {A = ℕ} 0 1 = cc in absurd (omega arith)
 
-    go : (p : Phase) → first_due (due_event x.root.dev.clock slot p) ≡ At i cause t → slot_happens bus entry x (due_event x.root.dev.clock slot p) ≡ record { status = ready; root = frs_arrive (frs_of_slot bus entry slot cause) x.root }
+    go : (p : Phase) → first_due (due_event x.root.dev.clock slot p) ≡ Some (cause, t) → slot_happens bus entry x (due_event x.root.dev.clock slot p) ≡ record { status = ready; root = frs_arrive (frs_of_slot bus entry slot cause) x.root }
     go Down q = let z : ◌≡◌ {A = ℕ} 0 1 = cc in absurd (omega arith)
     go Ready q = let z : ◌≡◌ {A = ℕ} 0 1 = cc in absurd (omega arith)
     go (Pending d u) q = at (reached x.root.dev.clock u) d u q
 
 -- when it did, if it did
-pub made_none : (es : List Event) → first_due es ≡ Nothing → Never ≡ made_by es
+pub made_none : (es : List Event) → first_due es ≡ None → None ≡ made_by es
 made_none es e = sym (ap made_by (none_due es e))
 
-pub made_at : (es : List Event) (i : ℕ) (cause : Cause) (t : Nanos) → first_due es ≡ At i cause t → moment.At t ≡ made_by es
-made_at [] i cause t e = let z : ◌≡◌ {A = ℕ} 0 1 = cc in absurd (omega arith)
-made_at (f ∷ es) i cause t e = let s : f.time ≡ t = cc in sym (ap moment.At s)
+pub made_at : (es : List Event) (cause : Cause) (t : Nanos) → first_due es ≡ Some (cause, t) → Some t ≡ made_by es
+made_at [] cause t e = let z : ◌≡◌ {A = ℕ} 0 1 = cc in absurd (omega arith)
+made_at (f ∷ es) cause t e = let s : ◌≡◌ {A = Cause × Nanos} (f.cause, f.time) (cause, t) = cc in sym (ap (λ (v : Cause × Nanos). Some v.1) s)
 
 -- ---- the first of the events that are due, and the others
 

@@ -1,10 +1,12 @@
 // Slot statuses as numbers, four to a slot: the phase with its cause, the ready time, the end of an FLR, and the moment at which the slot last became
 // Ready, which is no part of its status. They are lent as a slice of numbers, and changed in place.
+// Kept: `feed::feed_lent` lends its statuses so, from call to call; and an array of statuses by value, a copy of 1 KB through each call, halves the
+// speed of resets, long advances and short pieces.
 ghost use Rattle.std.specs.Prelude.{◌≡◌, ◌<◌, length, get_or, set};
 ghost use Rattle.readiness.specs.Status.{ready};
 ghost use Rattle.readiness.specs.inner.Phases.{status_of, statuses_in, moments_in, notes_at};
 
-use readiness::{Cause, Moment, Phase, Status};
+use readiness::{Cause, Phase, Status};
 use times::Nanos;
 
 // Pending, with a ready time in nanoseconds.
@@ -48,8 +50,7 @@ pub fn put_status(phases: &mut [u64], i: usize, status: Status)
     ensures phases_unchanged { moments_in phases.new ≡ moments_in phases.old }
 {
     let at = 4 * i;
-    let phase = status.phase;
-    match phase {
+    match status.phase {
         Phase::Down => {
             phases[at] = 0;
         }
@@ -84,14 +85,13 @@ pub fn put_moment(phases: &mut [u64], i: usize, moment_ns: u64)
 }
 
 // The same, if the slot became Ready.
-pub fn note(phases: &mut [u64], i: usize, made: Moment)
+pub fn note(phases: &mut [u64], i: usize, made: Option<Nanos>)
     requires { i < length (statuses_in phases.old) }
     ensures phases_unchanged { statuses_in phases.new ≡ statuses_in phases.old }
     ensures phases_after { moments_in phases.new ≡ notes_at made i (moments_in phases.old) }
 {
-    match made {
-        Moment::Never => {}
-        Moment::At(time) => put_moment(phases, i, times::nanos_number(time)),
+    if let Some(time) = made {
+        put_moment(phases, i, times::nanos_number(time));
     }
 }
 
@@ -100,11 +100,8 @@ pub fn in_numbers(statuses: [Status; 32]) -> [u64; 128]
     ensures { statuses_in result ≡ statuses }
 {
     let mut phases = [0u64; 128];
-    let mut i: usize = 0;
-    while i < 32 {
-        let s = statuses[i];
-        put_status(&mut phases, i, s);
-        i += 1;
+    for i in 0..32 {
+        put_status(&mut phases, i, statuses[i]);
     }
     phases
 }
@@ -116,11 +113,8 @@ pub fn in_statuses(phases: [u64; 128]) -> [Status; 32]
     let mut statuses = [Status {
         phase: Phase::Ready,
     }; 32];
-    let mut i: usize = 0;
-    while i < 32 {
-        let s = status_at(&phases, i);
-        statuses[i] = s;
-        i += 1;
+    for i in 0..32 {
+        statuses[i] = status_at(&phases, i);
     }
     statuses
 }

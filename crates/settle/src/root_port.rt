@@ -3,22 +3,20 @@ ghost use Rattle.std.specs.Prelude.{◌≡◌, not, ◌&&◌, ◌||◌, cond, Li
 ghost use Rattle.readiness.specs.Root.{root, frs_arrive, drs_set, drs_arrives, nothing_owed};
 
 use frs_queue::Frs;
-use readiness::RootPort;
+use readiness::{Dev, RootPort};
 
 // An FRS arrives.
 pub fn frs_arrives(port: RootPort, cells: &mut [u32], frs: Frs) -> RootPort
     ensures { root cells.new result ≡ frs_arrive (frs ∷ []) (root cells.old port) }
 {
-    let mut dev = port.dev;
-    let queue = dev.queue;
-    let tally = port.tally;
-    let arrival = frs_queue::arrive(queue, tally, dev.control.frs_interrupt, cells, frs);
-    let after = arrival.queue;
-    let brought = arrival.tally;
-    dev.queue = after;
+    let interrupt = port.dev.control.frs_interrupt;
+    let arrival = frs_queue::arrive(port.dev.queue, port.tally, interrupt, cells, frs);
     RootPort {
-        dev: dev,
-        tally: brought,
+        dev: Dev {
+            queue: arrival.queue,
+            ..port.dev
+        },
+        tally: arrival.tally,
     }
 }
 
@@ -26,13 +24,7 @@ pub fn frs_arrives(port: RootPort, cells: &mut [u32], frs: Frs) -> RootPort
 fn drs_raised(already: bool, received: bool, signalling: u8) -> bool
     ensures { result ≡ (already || (not received && eqb signalling 1)) }
 {
-    if already {
-        true
-    } else if received {
-        false
-    } else {
-        signalling == 1
-    }
+    already || (!received && signalling == 1)
 }
 
 // DRS Received is set.
@@ -63,9 +55,10 @@ pub fn drs_arrives(port: RootPort, cells: &mut [u32], port_id: u16) -> RootPort
             id: port_id,
             reason: 1,
         };
-        return frs_arrives(p, cells, frs);
+        frs_arrives(p, cells, frs)
+    } else {
+        p
     }
-    p
 }
 
 // The DRS that is owed is received, and nothing is owed.
@@ -77,12 +70,13 @@ fn drs_told(port: RootPort, cells: &mut [u32], port_id: u16) -> RootPort
     p
 }
 
-// The DRS is received if it is due.
-pub fn tell(is_due: bool, port: RootPort, cells: &mut [u32], port_id: u16) -> RootPort
-    ensures { root cells.new result ≡ cond is_due (nothing_owed (drs_arrives port_id (root cells.old port))) (root cells.old port) }
+// The DRS is received if one is owed and no slot waits.
+pub fn tell(port: RootPort, cells: &mut [u32], port_id: u16, waits: bool) -> RootPort
+    ensures { root cells.new result ≡ cond (port.dev.owed && not waits) (nothing_owed (drs_arrives port_id (root cells.old port))) (root cells.old port) }
 {
-    if is_due {
-        return drs_told(port, cells, port_id);
+    if port.dev.owed && !waits {
+        drs_told(port, cells, port_id)
+    } else {
+        port
     }
-    port
 }

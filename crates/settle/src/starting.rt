@@ -6,7 +6,6 @@ ghost use Rattle.readiness.specs.Status.{pending, started_by_link_up, stopped_by
 ghost use Rattle.readiness.specs.inner.Phases.{statuses_in, moments_in};
 
 use crate::phases::put_status;
-use bits::at_most;
 use readiness::{Cause, Dev, Phase, Setup, Slot, Status};
 use times::Nanos;
 
@@ -14,8 +13,7 @@ use times::Nanos;
 fn link_up_status(clock: Nanos, entry: Slot) -> Status
     ensures { result ≡ pending Cause.LinkUp (sum_of clock (nanos_of entry.dl_up)) }
 {
-    let t = times::in_nanos(entry.dl_up);
-    let ready = times::sum(clock, t);
+    let ready = times::sum(clock, times::in_nanos(entry.dl_up));
     Status {
         phase: Phase::Pending(Cause::LinkUp, ready),
     }
@@ -27,12 +25,9 @@ pub fn start_all(setup: Setup, dev: Dev, phases: &mut [u64])
     ensures phases_after { statuses_in phases.new ≡ started_by_link_up setup dev (statuses_in phases.old) }
     ensures phases_unchanged { moments_in phases.new ≡ moments_in phases.old }
 {
-    let clock = dev.clock;
-    let mut i: usize = 0;
-    while i < setup.slots {
-        let entry = setup.entries[i];
-        put_status(&mut *phases, i, link_up_status(clock, entry));
-        i += 1;
+    for i in 0..setup.slots {
+        let status = link_up_status(dev.clock, setup.entries[i]);
+        put_status(&mut *phases, i, status);
     }
 }
 
@@ -40,22 +35,20 @@ pub fn start_all(setup: Setup, dev: Dev, phases: &mut [u64])
 pub fn after_link_up(dev: Dev) -> Dev
     ensures { result ≡ after_link_up dev }
 {
-    let mut d = dev;
-    d.link = true;
-    d.owed = true;
-    d
+    Dev {
+        link: true,
+        owed: true,
+        ..dev
+    }
 }
 
 // The statuses after link down or cold reset.
 pub fn reset_statuses(setup: Setup, dev: Dev, statuses: [Status; 32]) -> [Status; 32]
     ensures { result ≡ stopped_by_reset setup dev statuses }
 {
-    let n = at_most(setup.slots, 32);
     let mut out = statuses;
-    let mut i: usize = 0;
-    while i < n {
+    for i in 0..setup.slots.min(32) {
         out[i] = Status { phase: Phase::Down };
-        i += 1;
     }
     out
 }
@@ -66,10 +59,8 @@ pub fn stop_all(setup: Setup, dev: Dev, phases: &mut [u64])
     ensures phases_after { statuses_in phases.new ≡ stopped_by_reset setup dev (statuses_in phases.old) }
     ensures phases_unchanged { moments_in phases.new ≡ moments_in phases.old }
 {
-    let mut i: usize = 0;
-    while i < setup.slots {
+    for i in 0..setup.slots {
         put_status(&mut *phases, i, Status { phase: Phase::Down });
-        i += 1;
     }
 }
 
@@ -77,22 +68,22 @@ pub fn stop_all(setup: Setup, dev: Dev, phases: &mut [u64])
 fn after_reset(dev: Dev) -> Dev
     ensures { result ≡ after_reset dev }
 {
-    let queue = dev.queue;
-    let emptied = frs_queue::empty(queue);
-    let mut d = dev;
-    d.link = false;
-    d.owed = false;
-    d.queue = emptied;
-    d
+    Dev {
+        link: false,
+        owed: false,
+        queue: frs_queue::empty(dev.queue),
+        ..dev
+    }
 }
 
 // The device after link down.
 pub fn after_link_down(dev: Dev) -> Dev
     ensures { result ≡ after_link_down dev }
 {
-    let mut d = after_reset(dev);
-    d.drs_received = false;
-    d
+    Dev {
+        drs_received: false,
+        ..after_reset(dev)
+    }
 }
 
 // The device after cold reset.
@@ -100,9 +91,8 @@ pub fn after_cold_reset(dev: Dev) -> Dev
     ensures { result ≡ after_cold_reset dev }
 {
     let mut d = after_reset(dev);
-    let control = readiness::blank_control();
     d.drs_received = false;
-    d.control = control;
+    d.control = readiness::blank_control();
     d.queue.received = false;
     d.queue.overflow = false;
     d
@@ -114,7 +104,7 @@ pub fn flr_status(clock: Nanos, entry: Slot) -> Status
 {
     let t = times::in_nanos(entry.flr);
     let most = times::nanos_of(100000000);
-    let end = times::sum(clock, times::least(t, most));
+    let end = times::sum(clock, t.min(most));
     let ready = times::sum(clock, t);
     Status {
         phase: Phase::Pending(Cause::Flr(end), ready),

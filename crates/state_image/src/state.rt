@@ -5,10 +5,7 @@ ghost use Rattle.bits.specs.Widths.{at_most};
 ghost use Rattle.state_layout.specs.Image.{single_bytes, dev_bytes, up_to, port_bytes, phase_byte, cause_number, cause_byte, ready_time, end_number, flr_end, status_bytes, statuses_bytes, state_bytes};
 ghost use Rattle.state_layout.specs.Reading.{yes_or_no, yes, good_port, good_status, good_statuses, is_good, control_in, queue_in, dev_in, bytes_from, port_in, cause_in, phase_in, status_in, statuses_in_bytes};
 
-use crate::numbers::{
-    byte_at, eight_at, put, put_bool, put_eight, put_two, size, size_of_byte, two_at,
-};
-use bits::at_most;
+use crate::numbers::{byte_at, eight_at, put, put_bool, put_eight, put_two, two_at};
 use frs_queue::Queue;
 use readiness::{Cause, Control, Dev, Phase, Status, all_down};
 use records::Port;
@@ -19,7 +16,7 @@ pub fn image_size(lent: usize) -> usize
     ensures value { result ≡ 46 + 27 * at_most lent 32 }
     ensures upper_bound { result ≤ 910 }
 {
-    46 + 27 * at_most(lent, 32)
+    46 + 27 * lent.min(32)
 }
 
 // ---- Reading
@@ -53,6 +50,7 @@ fn is_good_port(bytes: &[u8]) -> bool
 }
 
 // A phase is at most 2, a cause at most 3, a Pending slot has one, and no slot has a set of children.
+// Kept: here, in status_in and in put_status `at < 65536` is what adding to an index needs; each is called once, in a loop over 32 slots that shows it.
 fn is_good_status(bytes: &[u8], at: usize) -> bool
     requires { at < 65536 }
     ensures { result ≡ good_status (drop at bytes.now) }
@@ -66,13 +64,12 @@ fn is_good_status(bytes: &[u8], at: usize) -> bool
 fn are_good_statuses(bytes: &[u8]) -> bool
     ensures { result ≡ good_statuses 32 (drop 46 bytes.now) }
 {
-    let mut i: usize = 0;
-    let mut good = true;
-    while i < 32 {
-        good = good & is_good_status(bytes, 46 + 27 * i);
-        i += 1;
+    for i in 0..32 {
+        if !is_good_status(bytes, 46 + 27 * i) {
+            return false;
+        }
     }
-    good
+    true
 }
 
 // No byte is out of its range; the bytes of statuses that are not lent are 0.
@@ -96,8 +93,8 @@ fn queue_in(bytes: &[u8]) -> Queue
     ensures { result ≡ queue_in bytes.now }
 {
     Queue {
-        start: size(two_at(bytes, 24)),
-        depth: size(two_at(bytes, 26)),
+        start: usize::from(two_at(bytes, 24)),
+        depth: usize::from(two_at(bytes, 26)),
         received: is_yes(bytes, 18),
         overflow: is_yes(bytes, 19),
     }
@@ -120,10 +117,8 @@ fn carried_in(bytes: &[u8]) -> [u8; 16]
     ensures { result ≡ bytes_from 16 29 bytes.now }
 {
     let mut carried = [0u8; 16];
-    let mut i: usize = 0;
-    while i < 16 {
+    for i in 0..16 {
         carried[i] = byte_at(bytes, 29 + i);
-        i += 1;
     }
     carried
 }
@@ -134,11 +129,12 @@ pub fn port_in(bytes: &[u8]) -> Port
     Port {
         dev: dev_in(bytes),
         carried: carried_in(bytes),
-        carried_len: size_of_byte(byte_at(bytes, 28)),
+        carried_len: usize::from(byte_at(bytes, 28)),
         broken: is_yes(bytes, 45),
     }
 }
 
+// Kept: no TryFrom, since any byte may be lent: `state_layout`'s `cause_in` and `phase_in` read every byte that stands for no other as D3hot, and as Ready.
 fn cause_of(cause: u8, end: Nanos) -> Cause
     ensures { result ≡ cause_in cause end }
 {
@@ -149,6 +145,7 @@ fn cause_of(cause: u8, end: Nanos) -> Cause
     }
 }
 
+// Kept: as for cause_of.
 fn phase_of(phase: u8, cause: Cause, ready: Nanos) -> Phase
     ensures { result ≡ phase_in phase cause ready }
 {
@@ -160,6 +157,7 @@ fn phase_of(phase: u8, cause: Cause, ready: Nanos) -> Phase
 }
 
 // Phase, cause, ready time and FLR end; a status that has no use for one of these forgets it.
+// Kept: `at < 65536` as in is_good_status.
 fn status_in(bytes: &[u8], at: usize) -> Status
     requires { at < 65536 }
     ensures { result ≡ status_in (drop at bytes.now) }
@@ -168,18 +166,15 @@ fn status_in(bytes: &[u8], at: usize) -> Status
     let end = times::nanos_of(eight_at(bytes, at + 10));
     let cause = cause_of(byte_at(bytes, at + 1), end);
     let phase = phase_of(byte_at(bytes, at), cause, ready);
-    Status { phase: phase }
+    Status { phase }
 }
 
 pub fn statuses_in(bytes: &[u8]) -> [Status; 32]
     ensures { result ≡ statuses_in_bytes 32 (drop 46 bytes.now) }
 {
     let mut statuses = all_down();
-    let mut i: usize = 0;
-    while i < 32 {
-        let status = status_in(bytes, 46 + 27 * i);
-        statuses[i] = status;
-        i += 1;
+    for i in 0..32 {
+        statuses[i] = status_in(bytes, 46 + 27 * i);
     }
     statuses
 }
@@ -222,24 +217,21 @@ pub fn shown(i: usize, count: usize, b: u8) -> u8
 fn put_carried(bytes: &mut [u8], carried: [u8; 16], count: usize)
     ensures { bytes.new ≡ sets bytes.old 29 (up_to count carried) }
 {
-    let mut i: usize = 0;
-    while i < 16 {
+    for i in 0..16 {
         put(&mut *bytes, 29 + i, shown(i, count, carried[i]));
-        i += 1;
     }
 }
 
 fn put_port(bytes: &mut [u8], port: Port)
     ensures { bytes.new ≡ sets bytes.old 0 (port_bytes port) }
 {
-    let dev = port.dev;
-    let carried = port.carried;
-    put_dev(&mut *bytes, dev);
+    put_dev(&mut *bytes, port.dev);
     put(&mut *bytes, 28, (port.carried_len % 256) as u8);
-    put_carried(&mut *bytes, carried, port.carried_len);
+    put_carried(&mut *bytes, port.carried, port.carried_len);
     put_bool(&mut *bytes, 45, port.broken);
 }
 
+// Kept: the layout's numbers stand here beside each other and not as a From of `readiness`, whose types say nothing of images.
 fn phase_byte(phase: Phase) -> u8
     ensures { result ≡ phase_byte phase }
 {
@@ -250,6 +242,7 @@ fn phase_byte(phase: Phase) -> u8
     }
 }
 
+// Kept: as for phase_byte.
 fn cause_number(cause: Cause) -> u8
     ensures { result ≡ cause_number cause }
 {
@@ -301,6 +294,7 @@ fn flr_end(phase: Phase) -> u64
 }
 
 // Phase, cause, ready time and FLR end; no set of children, and no end of its change.
+// Kept: `at < 65536` as in is_good_status; `bytes` and `at` as in `numbers`.
 fn put_status(bytes: &mut [u8], at: usize, status: Status)
     requires { at < 65536 }
     ensures { bytes.new ≡ sets bytes.old at (status_bytes status) }
@@ -318,11 +312,8 @@ fn put_statuses(bytes: &mut [u8], statuses: [Status; 32], lent: usize)
     requires { lent ≤ 32 }
     ensures { bytes.new ≡ sets bytes.old 46 (statuses_bytes (take lent statuses)) }
 {
-    let mut i: usize = 0;
-    while i < lent {
-        let status = statuses[i];
-        put_status(&mut *bytes, 46 + 27 * i, status);
-        i += 1;
+    for i in 0..lent {
+        put_status(&mut *bytes, 46 + 27 * i, statuses[i]);
     }
 }
 

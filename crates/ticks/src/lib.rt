@@ -8,11 +8,11 @@ ghost use Rattle.ticks.specs.Ticks.{difference as difference_of, went_back, in_n
 use times::Nanos;
 
 // What the recorder's clock shows: a count of ticks that wraps to 0.
-#[derive(Clone, Copy)]
+#[derive(Clone, Copy, PartialEq, Eq)]
 pub struct Stamp(u32);
 
 // The difference of two stamps, in ticks.
-#[derive(Clone, Copy)]
+#[derive(Clone, Copy, PartialEq, Eq)]
 pub struct Ticks(u32);
 
 // The stamp with this number.
@@ -37,10 +37,11 @@ pub fn ticks_number(d: Ticks) -> u32
 }
 
 // From one stamp to the next, wrapped.
+#[tactic(auto, unfolding(crate::specs::Ticks::difference))]
 pub fn difference(earlier: Stamp, stamp: Stamp) -> Ticks
     ensures { result ≡ difference_of earlier stamp }
 {
-    Ticks(std::num::wrapping_sub_u32(stamp.0, earlier.0))
+    Ticks(stamp.0.wrapping_sub(earlier.0))
 }
 
 // Whether the recorder went back: 2^31 ticks or more.
@@ -56,5 +57,5 @@ pub fn went_back(d: Ticks) -> bool
 pub fn in_nanos(d: Ticks) -> Nanos
     ensures { result ≡ in_nanos d }
 {
-    times::nanos_of(4 * (d.0 as u64))
+    times::nanos_of(4 * u64::from(d.0))
 }

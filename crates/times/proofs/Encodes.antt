@@ -9,8 +9,7 @@ use borrow.Author.Tests.{leb-true, leb-false, le-leb, eq-eqb}
 use Rattle.bits.proofs.Tests.{all_at, and_left, and_right}
 use Rattle.times.specs.declared.Code.{Code}
 use Rattle.times.specs.declared.Nanos.{Nanos}
-use Rattle.times.specs.declared.Encoded.{Encoded}
-use Rattle.times.specs.declared.Encoded.TheVariants.{Of, NoCode}
+use Rattle.std.specs.Prelude.{Option, Some, None}
 use Rattle.times.specs.Codes.{power_of, nanos_of, allowed, value_of, scale_of, greatest_time}
 use Rattle.times.specs.Encoder.{rounded_up, fits_at, code_of, first_from, encoded, starts_scale, next_lower}
 use Rattle.times.specs.Encodes.{Lowest, LeastCovering, NextSmaller, Encodes}
@@ -19,7 +18,7 @@ use Rattle.times.proofs.Scales.{First, first, nowhere, power_pos, power_split, u
 
 -- ---- the code that is given
 
-module _ (t : Nanos) (c : Code) (e : encoded t ≡ Of c) where
+module _ (t : Nanos) (c : Code) (e : encoded t ≡ Some c) where
   chosen : First 6 0 t.0 c
   unfolding encoded
   chosen = first 6 0 t.0 c e
@@ -78,25 +77,25 @@ module _ (t : Nanos) (c : Code) (e : encoded t ≡ Of c) where
 
 -- ---- when there is one
 
-none_above : (t : Nanos) → encoded t ≡ NoCode → greatest_time < t.0
+none_above : (t : Nanos) → encoded t ≡ None → greatest_time < t.0
 unfolding encoded fits_at power_of rounded_up
 none_above t e =
     let f : fits_at t.0 5 ≡ false = nowhere 6 0 t.0 e 5 (omega arith) (omega arith) in
     omega (arith, leb-false ((t.0 + 33554431) / 33554432) 30 f)
 
-some : (t : Nanos) → t.0 ≤ greatest_time → (c : Code) × (encoded t ≡ Of c)
+some : (t : Nanos) → t.0 ≤ greatest_time → (c : Code) × (encoded t ≡ Some c)
 some t h = by (encoded t) refl
   where
-    by : (x : Encoded) → encoded t ≡ x → (c : Code) × (encoded t ≡ Of c)
-    by (Of c) e = (c, e)
-    by NoCode e = absurd (omega (arith, none_above t e))
+    by : (x : Option Code) → encoded t ≡ x → (c : Code) × (encoded t ≡ Some c)
+    by (Some c) e = (c, e)
+    by None e = absurd (omega (arith, none_above t e))
 
-pub none : (t : Nanos) → greatest_time < t.0 → encoded t ≡ NoCode
+pub none : (t : Nanos) → greatest_time < t.0 → encoded t ≡ None
 none t h = by (encoded t) refl
   where
-    by : (x : Encoded) → encoded t ≡ x → encoded t ≡ NoCode
-    by (Of c) e = absurd (omega (arith, covers t c e, allowed_most c (is_allowed_lem t c e)))
-    by NoCode e = e
+    by : (x : Option Code) → encoded t ≡ x → encoded t ≡ None
+    by (Some c) e = absurd (omega (arith, covers t c e, allowed_most c (is_allowed_lem t c e)))
+    by None e = e
 
 -- ---- there is one such code
 
@@ -114,15 +113,15 @@ same_code t c d l m =
     let number : c.0 ≡ d.0 = le_antisymm (no_higher c d l.lowest (sym time)) (no_higher d c m.lowest time) in
     λ i. record { 0 = number i }
 
-only : (t : Nanos) (c : Code) → LeastCovering t c → encoded t ≡ Of c
+only : (t : Nanos) (c : Code) → LeastCovering t c → encoded t ≡ Some c
 only t c l = by (encoded t) refl
   where
-    by : (x : Encoded) → encoded t ≡ x → encoded t ≡ Of c
-    by (Of d) e = e ∙ ap Of (same_code t d c (given t d e) l)
-    by NoCode e = absurd (omega (arith, none_above t e, l.covers, allowed_most c l.is_allowed))
+    by : (x : Option Code) → encoded t ≡ x → encoded t ≡ Some c
+    by (Some d) e = e ∙ ap Some (same_code t d c (given t d e) l)
+    by None e = absurd (omega (arith, none_above t e, l.covers, allowed_most c l.is_allowed))
 
 -- a code that is given is given for its own time
-again : (t : Nanos) (c : Code) → encoded t ≡ Of c → encoded (nanos_of c) ≡ Of c
+again : (t : Nanos) (c : Code) → encoded t ≡ Some c → encoded (nanos_of c) ≡ Some c
 again t c e =
     let l = given t c e in
     only (nanos_of c) c (record { is_allowed = l.is_allowed; covers = omega arith; least = λ d a h. h; lowest = l.lowest })
@@ -130,25 +129,25 @@ again t c e =
 -- ---- the next lower code
 
 -- whether this time is given the code of this number
-is_code : ℕ → Encoded → Bool
-is_code n (Of c) = eqb c.0 n
-is_code n NoCode = false
+is_code : ℕ → Option Code → Bool
+is_code n (Some c) = eqb c.0 n
+is_code n None = false
 
 gives : (t n : ℕ) → Bool
 gives t n = is_code n (encoded (record { 0 = t }))
 
-gives-code : (t n : ℕ) → T (gives t n) → encoded (record { 0 = t }) ≡ Of (record { 0 = n })
+gives-code : (t n : ℕ) → T (gives t n) → encoded (record { 0 = t }) ≡ Some (record { 0 = n })
 unfolding gives is_code
 gives-code t n = by (encoded (record { 0 = t }))
   where
-    by : (x : Encoded) → T (is_code n x) → x ≡ Of (record { 0 = n })
-    by (Of c) h = let e : c.0 ≡ n = eqb→eq c.0 n h in λ i. Of (record { 0 = e i })
-    by NoCode h = absurd h
+    by : (x : Option Code) → T (is_code n x) → x ≡ Some (record { 0 = n })
+    by (Some c) h = let e : c.0 ≡ n = eqb→eq c.0 n h in λ i. Some (record { 0 = e i })
+    by None h = absurd h
 
 -- the next lower code of the code n of time t: it is given for its own time, and a nanosecond more is given n
-is_lower : (t n : ℕ) → Encoded → Bool
-is_lower t n (Of d) = ltb (nanos_of d).0 t && (gives (nanos_of d).0 d.0 && gives ((nanos_of d).0 + 1) n)
-is_lower t n NoCode = eqb t 0
+is_lower : (t n : ℕ) → Option Code → Bool
+is_lower t n (Some d) = ltb (nanos_of d).0 t && (gives (nanos_of d).0 d.0 && gives ((nanos_of d).0 + 1) n)
+is_lower t n None = eqb t 0
 
 lower_right : Code → Bool
 lower_right c = cond (gives (nanos_of c).0 c.0) (is_lower (nanos_of c).0 c.0 (next_lower c)) true
@@ -158,7 +157,7 @@ all_lower : (c : Code) → allowed c ≡ true → T (lower_right c)
 unfolding allowed lower_right is_lower gives is_code next_lower starts_scale encoded first_from fits_at code_of rounded_up nanos_of power_of
 all_lower c a = all_at 2591 (λ n. lower_right (record { 0 = n })) tt c.0 (omega (arith, leb-true c.0 2590 a))
 
-module _ (t : Nanos) (c : Code) (e : encoded t ≡ Of c) where
+module _ (t : Nanos) (c : Code) (e : encoded t ≡ Some c) where
   lower_right_lem : T (is_lower (nanos_of c).0 c.0 (next_lower c))
   unfolding lower_right gives is_code
   lower_right_lem = by (gives (nanos_of c).0 c.0) (ap (is_code c.0) (again t c e) ∙ eq-eqb c.0 c.0 refl) (all_lower c (is_allowed_lem t c e))
@@ -167,15 +166,15 @@ module _ (t : Nanos) (c : Code) (e : encoded t ≡ Of c) where
       by true p h = h
       by false p h = absurd (true≢false (sym p))
 
-  lower_none_lem : next_lower c ≡ NoCode → (nanos_of c).0 ≡ 0
+  lower_none_lem : next_lower c ≡ None → (nanos_of c).0 ≡ 0
   unfolding is_lower
-  lower_none_lem k = eqb→eq (nanos_of c).0 0 (subst (λ (x : Encoded). T (is_lower (nanos_of c).0 c.0 x)) k lower_right_lem)
+  lower_none_lem k = eqb→eq (nanos_of c).0 0 (subst (λ (x : Option Code). T (is_lower (nanos_of c).0 c.0 x)) k lower_right_lem)
 
-  lower_is_lem : (d : Code) → next_lower c ≡ Of d → NextSmaller c d
+  lower_is_lem : (d : Code) → next_lower c ≡ Some d → NextSmaller c d
   unfolding is_lower
   lower_is_lem d k =
       let time = (nanos_of d).0 in
-      let h : T (is_lower (nanos_of c).0 c.0 (Of d)) = subst (λ (x : Encoded). T (is_lower (nanos_of c).0 c.0 x)) k lower_right_lem in
+      let h : T (is_lower (nanos_of c).0 c.0 (Some d)) = subst (λ (x : Option Code). T (is_lower (nanos_of c).0 c.0 x)) k lower_right_lem in
       let both : T (gives time d.0 && gives (time + 1) c.0) = and_right (ltb time (nanos_of c).0) (gives time d.0 && gives (time + 1) c.0) h in
       let own = given (nanos_of d) d (gives-code time d.0 (and_left (gives time d.0) (gives (time + 1) c.0) both)) in
       let more = given (record { 0 = time + 1 }) c (gives-code (time + 1) c.0 (and_right (gives time d.0) (gives (time + 1) c.0) both)) in

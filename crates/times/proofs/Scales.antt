@@ -10,7 +10,7 @@ use lib.Pow.{pow-add}
 use borrow.Author.Tests.{leb-true, le-leb}
 use Rattle.bits.proofs.Tests.{all_at}
 use Rattle.times.specs.declared.Code.{Code}
-use Rattle.times.specs.declared.Encoded.TheVariants.{Of, NoCode}
+use Rattle.std.specs.Prelude.{Some, None}
 use Rattle.times.specs.Codes.{power_of, nanos_of, allowed, value_of, scale_of}
 use Rattle.times.specs.Encoder.{rounded_up, greatest_value, fits_at, code_of, code_at, first_from}
 
@@ -63,24 +63,24 @@ module _ (n s t : ℕ) (c : Code) where
         earlier = λ k l h. ⊎_elim (λ (d : s ≡ k). ap (fits_at t) (sym d) ∙ no-fit) (λ (m : s < k). f.earlier k m h) (eq-or-lt_of_le l);
       }
 
-  first_by : (first_from n (suc s) t ≡ Of c → First n (suc s) t c) → (b : Bool) → fits_at t s ≡ b → cond b (Of (code_at t s)) (first_from n (suc s) t) ≡ Of c
+  first_by : (first_from n (suc s) t ≡ Some c → First n (suc s) t c) → (b : Bool) → fits_at t s ≡ b → cond b (Some (code_at t s)) (first_from n (suc s) t) ≡ Some c
       → First (suc n) s t c
   first_by f true p q =
       record { scale = s; low = omega arith; high = omega arith; fit = p; is = cc; earlier = λ k l h. absurd (omega arith) }
   first_by f false p q = later p (f q)
 
-pub first : (n s t : ℕ) (c : Code) → first_from n s t ≡ Of c → First n s t c
+pub first : (n s t : ℕ) (c : Code) → first_from n s t ≡ Some c → First n s t c
 unfolding first_from
 first zero s t c e = let z : ◌≡◌ {A = ℕ} 0 1 = cc in absurd (omega arith)
 first (suc n) s t c e = first_by n s t c (first n (suc s) t c) (fits_at t s) refl e
 
-pub nowhere : (n s t : ℕ) → first_from n s t ≡ NoCode → (k : ℕ) → s ≤ k → k < s + n → fits_at t k ≡ false
+pub nowhere : (n s t : ℕ) → first_from n s t ≡ None → (k : ℕ) → s ≤ k → k < s + n → fits_at t k ≡ false
 unfolding first_from
 nowhere zero s t e k l h = absurd (omega arith)
 nowhere (suc n) s t e k l h = by (nowhere n (suc s) t) (fits_at t s) refl e
   where
-    by : (first_from n (suc s) t ≡ NoCode → (k : ℕ) → suc s ≤ k → k < suc s + n → fits_at t k ≡ false) → (b : Bool) → fits_at t s ≡ b
-        → cond b (Of (code_at t s)) (first_from n (suc s) t) ≡ NoCode → fits_at t k ≡ false
+    by : (first_from n (suc s) t ≡ None → (k : ℕ) → suc s ≤ k → k < suc s + n → fits_at t k ≡ false) → (b : Bool) → fits_at t s ≡ b
+        → cond b (Some (code_at t s)) (first_from n (suc s) t) ≡ None → fits_at t k ≡ false
     by f true p q = let z : ◌≡◌ {A = ℕ} 0 1 = cc in absurd (omega arith)
     by f false p q = ⊎_elim (λ (d : s ≡ k). ap (fits_at t) (sym d) ∙ p) (λ (m : s < k). f q k m (omega arith)) (eq-or-lt_of_le l)
 

@@ -1,9 +1,7 @@
 -- From nanoseconds to a code (02, Q-1): the first scale at which the time, rounded up, has a value.
-use Rattle.std.specs.Prelude.{ℕ, zero, suc, ◌+◌, ◌-◌, ◌*◌, ◌/◌, Bool, cond, ◌&&◌, leb, ltb, eqb}
+use Rattle.std.specs.Prelude.{ℕ, zero, suc, ◌+◌, ◌-◌, ◌*◌, ◌/◌, Bool, cond, ◌&&◌, leb, ltb, eqb, Option, Some, None}
 use Rattle.times.specs.declared.Code.{Code}
 use Rattle.times.specs.declared.Nanos.{Nanos}
-use Rattle.times.specs.declared.Encoded.{Encoded}
-use Rattle.times.specs.declared.Encoded.TheVariants.{Of, NoCode}
 use Rattle.times.specs.Codes.{value_of, scale_of, power_of}
 
 -- a time divided by a factor, rounded up
@@ -27,12 +25,12 @@ abbrev pub code_at : (t scale : ℕ) → Code
 code_at t scale = code_of (rounded_up t (power_of scale)) scale
 
 -- the first of n scales, from this one on, at which the time fits
-unfoldable pub first_from : (n scale t : ℕ) → Encoded
-first_from zero scale t = NoCode
-first_from (suc n) scale t = cond (fits_at t scale) (Of (code_at t scale)) (first_from n (suc scale) t)
+unfoldable pub first_from : (n scale t : ℕ) → Option Code
+first_from zero scale t = None
+first_from (suc n) scale t = cond (fits_at t scale) (Some (code_at t scale)) (first_from n (suc scale) t)
 
 -- the code of a time: scales 0 to 5 are tried in turn
-unfoldable pub encoded : Nanos → Encoded
+unfoldable pub encoded : Nanos → Option Code
 encoded t = first_from 6 0 t.0
 
 -- 16 at a scale above 0: the time of 512 at the scale below, which has no such value
@@ -40,7 +38,7 @@ unfoldable pub starts_scale : (value scale : ℕ) → Bool
 starts_scale value scale = eqb value 16 && ltb 0 scale
 
 -- the code of the next smaller time below a code that is given: 511 of the scale below where 16 starts a scale, else a value less by 1
-unfoldable pub next_lower : Code → Encoded
+unfoldable pub next_lower : Code → Option Code
 next_lower c =
-    cond (eqb (value_of c) 0) NoCode
-    (Of (cond (starts_scale (value_of c) (scale_of c)) (code_of 511 (scale_of c - 1)) (code_of (value_of c - 1) (scale_of c))))
+    cond (eqb (value_of c) 0) None
+    (Some (cond (starts_scale (value_of c) (scale_of c)) (code_of 511 (scale_of c - 1)) (code_of (value_of c - 1) (scale_of c))))

@@ -1,8 +1,7 @@
 -- What is claimed of the codes that claims are turned into (02, Q-1), and of the units.
-use Rattle.std.specs.Prelude.{◌≡◌, true, ℕ, ◌*◌, ◌≤◌, ◌<◌}
+use Rattle.std.specs.Prelude.{◌≡◌, true, ℕ, ◌*◌, ◌≤◌, ◌<◌, Some, None}
 use Rattle.times.specs.declared.Code.{Code}
 use Rattle.times.specs.declared.Nanos.{Nanos}
-use Rattle.times.specs.declared.Encoded.TheVariants.{Of, NoCode}
 use Rattle.times.specs.declared.Unit.{Unit}
 use Rattle.times.specs.declared.Unit.TheVariants.{Ns, Us, Ms}
 use Rattle.times.specs.Codes.{nanos_of, allowed, greatest_time}
@@ -29,19 +28,19 @@ pub record NextSmaller (c d : Code) : Type 0 where
 
 pub record Encodes : Type 0 where
   -- the code given is that one, and that one is given
-  pub given : (t : Nanos) (c : Code) → encoded t ≡ Of c → LeastCovering t c
-  pub only : (t : Nanos) (c : Code) → LeastCovering t c → encoded t ≡ Of c
+  pub given : (t : Nanos) (c : Code) → encoded t ≡ Some c → LeastCovering t c
+  pub only : (t : Nanos) (c : Code) → LeastCovering t c → encoded t ≡ Some c
   -- there is one exactly if the time is at most 1,006,632,960 ns
-  pub some : (t : Nanos) → t.0 ≤ greatest_time → (c : Code) × (encoded t ≡ Of c)
-  pub none : (t : Nanos) → greatest_time < t.0 → encoded t ≡ NoCode
-  pub none_above : (t : Nanos) → encoded t ≡ NoCode → greatest_time < t.0
+  pub some : (t : Nanos) → t.0 ≤ greatest_time → (c : Code) × (encoded t ≡ Some c)
+  pub none : (t : Nanos) → greatest_time < t.0 → encoded t ≡ None
+  pub none_above : (t : Nanos) → encoded t ≡ None → greatest_time < t.0
   -- a time that an allowed code has comes back as that time
-  pub comes_back : (d c : Code) → allowed d ≡ true → encoded (nanos_of d) ≡ Of c → (nanos_of c).0 ≡ (nanos_of d).0
+  pub comes_back : (d c : Code) → allowed d ≡ true → encoded (nanos_of d) ≡ Some c → (nanos_of c).0 ≡ (nanos_of d).0
   -- a longer claim has no shorter time
-  pub monotone : (t u : Nanos) (c d : Code) → t.0 ≤ u.0 → encoded t ≡ Of c → encoded u ≡ Of d → (nanos_of c).0 ≤ (nanos_of d).0
+  pub monotone : (t u : Nanos) (c d : Code) → t.0 ≤ u.0 → encoded t ≡ Some c → encoded u ≡ Some d → (nanos_of c).0 ≤ (nanos_of d).0
   -- the next lower code of a code that is given is that of the next smaller time, and there is none only below 0
-  pub lower_is : (t : Nanos) (c d : Code) → encoded t ≡ Of c → next_lower c ≡ Of d → NextSmaller c d
-  pub lower_none : (t : Nanos) (c : Code) → encoded t ≡ Of c → next_lower c ≡ NoCode → (nanos_of c).0 ≡ 0
+  pub lower_is : (t : Nanos) (c d : Code) → encoded t ≡ Some c → next_lower c ≡ Some d → NextSmaller c d
+  pub lower_none : (t : Nanos) (c : Code) → encoded t ≡ Some c → next_lower c ≡ None → (nanos_of c).0 ≡ 0
 
 -- the nanoseconds of a claim
 abbrev pub nanos_for : ℕ → Unit → ℕ

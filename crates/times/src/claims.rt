@@ -2,7 +2,7 @@
 ghost use Rattle.std.specs.Prelude.{◌≡◌};
 ghost use Rattle.times.specs.Claims.{nanos_in, claimed_nanos};
 
-use crate::{ClaimedTime, GREATEST_NANOS, Nanos, Unit};
+use crate::{ClaimedTime, Nanos, Unit};
 
 // Nanoseconds in a microsecond, and in a millisecond.
 const NANOS_IN_US: u64 = 1000;
@@ -13,13 +13,11 @@ const NANOS_IN_MS: u64 = 1000000;
 pub fn claimed(number: u64, unit: Unit) -> ClaimedTime
     ensures { result ≡ record { number = number; unit = unit } }
 {
-    ClaimedTime {
-        number: number,
-        unit: unit,
-    }
+    ClaimedTime { number, unit }
 }
 
 // The number of a claim.
+// Kept: the fields are private, so that only this crate makes one kind of time of another; other crates read them here and below.
 pub fn claim_number(c: ClaimedTime) -> u64
     ensures { result ≡ c.number }
 {
@@ -34,6 +32,7 @@ pub fn claim_unit(c: ClaimedTime) -> Unit
 }
 
 // The nanoseconds in a unit.
+#[tactic(auto, unfolding(crate::specs::Claims::nanos_in))]
 fn nanos_in(unit: Unit) -> u64
     ensures { result ≡ nanos_in unit }
 {
@@ -45,15 +44,9 @@ fn nanos_in(unit: Unit) -> u64
 }
 
 // A claim in nanoseconds; the greatest there is where the product has no room.
+#[tactic(auto, unfolding(crate::specs::Claims::claimed_nanos))]
 pub fn claimed_nanos(c: ClaimedTime) -> Nanos
     ensures { result ≡ claimed_nanos c }
 {
-    let number = c.number;
-    let unit = c.unit;
-    let by = nanos_in(unit);
-    if number <= GREATEST_NANOS / by {
-        Nanos(number * by)
-    } else {
-        Nanos(GREATEST_NANOS)
-    }
+    Nanos(c.number.saturating_mul(nanos_in(c.unit)))
 }

@@ -18,6 +18,7 @@ pub struct Both {
     pub cells: [u32; 4],
 }
 
+// Kept: each becomes a field of the result.
 // Both calls and the memory, made one.
 pub fn both_with(
     first: Outcome,
@@ -30,11 +31,11 @@ pub fn both_with(
     ensures { result ≡ record { first = first; second = second; port = port; statuses = statuses; live = live; cells = cells } }
 {
     Both {
-        first: first,
-        second: second,
-        port: port,
-        statuses: statuses,
-        live: live,
-        cells: cells,
+        first,
+        second,
+        port,
+        statuses,
+        live,
+        cells,
     }
 }

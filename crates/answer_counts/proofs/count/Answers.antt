@@ -1,5 +1,5 @@
 -- `answer_counts::count` meets its contract.
-use Rattle.std.proofs.Common.{ℕ, List, ap, rules}
+use Rattle.std.proofs.Common.{ℕ, List, ap}
 use Rattle.answer_counts.specs.declared.Counts.{Counts}
 use Rattle.answer_counts.proofs.count.Goals as goal
 

@@ -1,6 +1,6 @@
 -- `answer_counts::count_each` meets its contract: the answers before the index are counted, and the others are left.
-use Rattle.std.proofs.Common.{◌-◌, ◌/◌, length, arith, rules}
-use Rattle.answer_counts.proofs.Laws.{Inv, starts, turns, ends}
+use Rattle.std.proofs.Common.{refl, arith, rules}
+use Rattle.answer_counts.proofs.Laws.{starts, turns, ends}
 use Rattle.answer_counts.proofs.count_each.Goals as goal
 
 pub loop-i-init : goal.loop-i-init
@@ -19,7 +19,7 @@ pub bounds-by-k-in-loop-i : goal.bounds-by-k-in-loop-i
 bounds-by-k-in-loop-i c = c.place_of-k.ensures.upper_bound
 
 pub loop-i-preserved : goal.loop-i-preserved
-loop-i-preserved c = let t = c in turns _ _ _ _ t.loop-i.invariant t.loop-i-test.true _ c.place_of-k.ensures.value _ c.one_more.ensures
+loop-i-preserved c = let t = c in turns _ _ _ _ t.loop-i.invariant t.loop-i-test.true _ c.place_of-k.ensures.value _ refl
 
 pub returns : goal.returns
 returns c = ends _ _ _ _ c.loop-i.invariant c.loop-i-test.false

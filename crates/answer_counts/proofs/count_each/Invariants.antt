@@ -1,10 +1,6 @@
 -- `answer_counts::count_each` meets its contract: the answers before the index are counted, and the others are left.
-use Rattle.std.proofs.Common.{◌-◌, ◌/◌, length, arith, rules}
-use Rattle.answer_counts.proofs.Laws.{Inv, starts, turns, ends}
+use Rattle.answer_counts.proofs.Laws.{Inv}
 use Rattle.answer_counts.proofs.count_each.Given as goal
 
 abbrev pub invariant-loop-i : goal.invariant-loop-i
 invariant-loop-i l = Inv l.initial.by l.answers l.by l.i
-
-abbrev pub decreases-loop-i : goal.decreases-loop-i
-decreases-loop-i l = length l.answers / 8 - l.i

@@ -3,7 +3,6 @@ use Rattle.std.proofs.Common.{◌≡◌, length, List, rules, ap, ◌∙◌}
 use Rattle.readiness.specs.declared.Status.{Status}
 use Rattle.demand3.specs.Held.{held, lent_of}
 use Rattle.demand3.specs.SettingUp.{sets_up}
-use Rattle.lent_statuses.specs.Statuses.{stored_over}
 use Rattle.bench.specs.Entries.{left_by_set_up}
 use Rattle.bench.proofs.Padding.{set_up_as_lent}
 use Rattle.bench.proofs.set_up.Goals as goal
@@ -16,7 +15,6 @@ returns c =
     let live = c.set_up-made.new.live in
     let cells = c.set_up-made.new.cells in
     let array : length made.statuses ≡ 32 = search rules in
-    let after = c.store.ensures ∙ ap (stored_over l) c.statuses_made-after.ensures in
-    (λ i. left_by_set_up (c.number_made.ensures i) (c.port_made-next.ensures i) (after i) live cells)
+    (λ i. left_by_set_up made.number made.port (c.store.ensures i) live cells)
     ∙ set_up_as_lent a.setup a.defaults.now a.port.now l a.live.now a.cells.now made live cells array
     (c.set_up-made.ensures ∙ ap (λ (s : List Status). sets_up a.setup a.defaults.now (held a.port.now (lent_of (length l) s) a.live.now a.cells.now)) c.load-array.ensures)

@@ -1,14 +1,14 @@
 -- What the code's types hold of the state of a replay.
-use Rattle.std.specs.Prelude.{◌≤◌, ◌<◌, length}
+use Rattle.std.specs.Prelude.{◌≤◌, ◌<◌, length, None, Some}
 use Rattle.ticks.specs.Ticks.{wraps}
 use Rattle.trace.specs.Format.{Bytes}
-use Rattle.capture.specs.Advances.{Earlier, none, was}
+use Rattle.capture.specs.Advances.{Earlier}
 use Rattle.capture.specs.Replay.{Progress}
 
 -- an earlier stamp of 32 bits
 abbrev pub Stamped : Earlier → Type 0
-Stamped none = Unit {0}
-Stamped (was e) = e.0 < wraps
+Stamped None = Unit {0}
+Stamped (Some e) = e.0 < wraps
 
 -- a stamp of at most 4 bytes, at most 2 advances, 32 or 33
 pub record Fits (r : Progress) : Type 0 where

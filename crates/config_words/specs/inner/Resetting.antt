@@ -4,7 +4,6 @@ use Rattle.registers.specs.declared.Kind.{Kind}
 use Rattle.registers.specs.Words.{pmcsr, device_control}
 use Rattle.registers.specs.inner.Masks.{link_mask, flr_mask, with_defaults}
 use Rattle.config_words.specs.declared.ResetMasks.{ResetMasks}
-use Rattle.config_words.specs.declared.LinkMasks.{LinkMasks}
 
 -- from one index up to, and without, another
 abbrev pub between : (from to n : ℕ) → Bool
@@ -56,7 +55,3 @@ link_masks kind = all_masks (link_mask kind)
 
 abbrev pub flr_masks : Kind → ResetMasks
 flr_masks kind = all_masks (flr_mask kind)
-
--- the masks of link down with the kind that they are of
-abbrev pub link_masks_of : Kind → LinkMasks
-link_masks_of kind = record { kind = kind; masks = link_masks kind }

@@ -15,4 +15,4 @@ returns c =
     let a = c.args in
     let one = call_of c.feed_once-one.result a.first.now a.first_answers.now c.feed_once-one.new.answers in
     let two = call_of c.feed_once-two.result a.second.now a.second_answers.now c.feed_once-two.new.answers in
-    two_calls a.setup a.defaults.now (held a.port a.statuses a.live a.cells) one two (c.feed_once-one.ensures, (c.feed_once-two.ensures, tt)) c.both_of.result c.both_of.ensures
+    two_calls a.setup a.defaults.now (held a.port a.statuses a.live a.cells) one two (c.feed_once-one.ensures, (c.feed_once-two.ensures, tt)) c.both_with.result c.both_with.ensures

@@ -1,44 +1,35 @@
 -- `feed::feed_in_place` meets its contract.
 use native.Mathlib.Omega.{arith}
-use mathlib.Core.Path.{refl}
-use lib.ListN.{length}
+use mathlib.Core.Path.{refl, ap, ◌∙◌}
 use borrow.Author.Rules.{rules}
-use Rattle.trace.specs.Format.{Bytes}
 use Rattle.bits.proofs.Bytes.{bytes_of}
-use Rattle.demand3.specs.Held.{Held}
 use Rattle.set_up.specs.Lent.{held_in}
-use Rattle.feed.specs.inner.Calls.{Opens, NotRefused, Completes}
-use Rattle.feed.proofs.NoRecord.{Typed, typed, runs_none, carries_few, runs_some}
+use Rattle.feed.specs.declared.FedPort.{FedPort}
+use Rattle.feed.specs.Left.{left_in_place}
+use Rattle.feed.proofs.NoRecord.{Typed, typed, completes_none, refused_feeds, carries_few}
 use Rattle.feed.proofs.feed_in_place.Goals as goal
 
-pub rests-requires : goal.rests-requires
-rests-requires c =
-    let lent : Held = held_in c.args.port c.args.phases.now c.args.live.now c.args.cells.now in
-    let held_in_types : Bytes c.args.input.now → Typed c.args.setup (lent) c.args.input.now = typed c.args.setup (lent) c.args.input.now (search rules) (search rules) (search rules) (λ i. search rules) in
-    let types : Typed c.args.setup (lent) c.args.input.now = held_in_types (bytes_of c.args.input.now (λ i h. omega (arith, c.shared_slice_known-2-1.given i))) in
-    let begins : Opens c.args.setup c.args.defaults.now (lent) c.args.input.now (length c.args.answers.now) c.opens-o.result = c.opens-o.ensures c.args.live.now refl in
-    let o = c in
-    let s = o in
-    carries_few s.args.setup s.args.defaults.now (lent) s.args.input.now s.args.answers.now (types) _ (begins)
+pub carry_on-requires : goal.carry_on-requires
+carry_on-requires c =
+    let a = c.args in
+    let h = held_in a.port a.phases.now a.live.now a.cells.now in
+    let t : Typed a.setup h a.input.now = typed a.setup h a.input.now (search rules) (search rules) (search rules) (λ i. search rules) (bytes_of a.input.now (λ i l. omega (arith, c.type_inv.input i))) in
+    let o = rw c.in-Ok-None.field-0-is at c.in-Ok-None.ensures in
+    carries_few a.setup a.defaults.now h a.input.now a.answers.now t (o a.live.now refl).0
 
-pub returns-then-o-eq0 : goal.returns-then-o-eq0
-returns-then-o-eq0 c =
-    let lent : Held = held_in c.args.port c.args.phases.now c.args.live.now c.args.cells.now in
-    let held_in_types : Bytes c.args.input.now → Typed c.args.setup (lent) c.args.input.now = typed c.args.setup (lent) c.args.input.now (search rules) (search rules) (search rules) (λ i. search rules) in
-    let types : Typed c.args.setup (lent) c.args.input.now = held_in_types (bytes_of c.args.input.now (λ i h. omega (arith, c.shared_slice_known-2-1.given i))) in
-    let begins : Opens c.args.setup c.args.defaults.now (lent) c.args.input.now (length c.args.answers.now) c.opens-o.result = c.opens-o.ensures c.args.live.now refl in
-    let o = c in
-    let s = o in
-    runs_none s.args.setup s.args.defaults.now (lent) s.args.input.now s.args.answers.now (types) _ (begins) c.if-o-eq0.true _ c.rests.ensures
+pub returns-in-Ok-None : goal.returns-in-Ok-None
+returns-in-Ok-None c =
+    let a = c.args in
+    let h = held_in a.port a.phases.now a.live.now a.cells.now in
+    let t : Typed a.setup h a.input.now = typed a.setup h a.input.now (search rules) (search rules) (search rules) (λ i. search rules) (bytes_of a.input.now (λ i l. omega (arith, c.type_inv.input i))) in
+    let o = rw c.in-Ok-None.field-0-is at c.in-Ok-None.ensures in
+    let none = o a.live.now refl in
+    ap (λ (x : FedPort). left_in_place x a.phases.now a.live.now a.cells.now a.answers.now) c.carry_on.ensures
+    ∙ completes_none a.setup a.defaults.now h a.input.now a.answers.now t none.0 none.1
 
-pub run_records-requires : goal.run_records-requires
-run_records-requires c =
-    let lent : Held = held_in c.args.port c.args.phases.now c.args.live.now c.args.cells.now in
-    let begins : Opens c.args.setup c.args.defaults.now (lent) c.args.input.now (length c.args.answers.now) c.opens-o.result = c.opens-o.ensures c.args.live.now refl in
-    let e = c in
-    let s = e in
-    let run : NotRefused s.args.setup s.args.defaults.now (lent) × Completes s.args.port s.args.input.now (length s.args.answers.now) c.opens-o.result.size = runs_some s.args.setup s.args.defaults.now (lent) s.args.input.now s.args.answers.now _ (begins) (omega (arith, e.if-o-eq0)) in
-    record { table_value = c.attributes-table.ensures; not_refused = run.0; completes = run.1 }
-
-pub returns : goal.returns
-returns c = c.run_records.ensures
+pub returns-in-Err : goal.returns-in-Err
+returns-in-Err c =
+    let a = c.args in
+    let h = held_in a.port a.phases.now a.live.now a.cells.now in
+    ap (λ (x : FedPort). left_in_place x a.phases.now a.live.now a.cells.now a.answers.now) c.refused.ensures
+    ∙ refused_feeds a.setup a.defaults.now h a.input.now a.answers.now c.in-Err.number (c.in-Err.ensures a.live.now refl)

@@ -9,12 +9,13 @@ use Rattle.set_up.specs.Lent.{held_in}
 use Rattle.feed.proofs.Accepting.{accepted}
 use Rattle.feed.proofs.opens.Goals as goal
 
+-- a call that isn't refused carries at most 16 bytes
 pub whole_size-requires : goal.whole_size-requires
 whole_size-requires c =
-    let short : c.args.port.carried_len ≤ 16 =
     let a = c.args in
     let live : List ℕ = replicate a.words 0 in
+    let short : a.port.carried_len ≤ 16 =
     (accepted a.setup a.defaults.now (held_in a.port a.phases.now live a.cells.now)
     (sym (c.refusal-no.ensures live (length-replicate a.words 0)) ∙ c.if-no-ne0.false) (search rules) (search rules)).short in
-    let sixteen : length c.args.port.carried ≡ 16 = search rules in
-    let e = c in omega (arith, short, sixteen)
+    let sixteen : length a.port.carried ≡ 16 = search rules in
+    omega (arith, short, sixteen)

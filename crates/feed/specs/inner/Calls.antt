@@ -1,5 +1,5 @@
 -- A call by its parts: how it begins, the record that it completes, and what it gives where it completes none.
-use Rattle.std.specs.Prelude.{ℕ, ◌-◌, ◌*◌, ◌≤◌, ◌<◌, ◌≡◌, List, ◌++◌, length, take, eqb}
+use Rattle.std.specs.Prelude.{ℕ, ◌-◌, ◌*◌, ◌≤◌, ◌<◌, ◌≡◌, ◌≢◌, List, ◌++◌, length, take, eqb, Option, Some, None, Result, Ok, Err}
 use Rattle.trace.specs.Format.{pad, next}
 use Rattle.trace.specs.inner.Gathered.{whole_size, end_number, end_count}
 use Rattle.trace.specs.Lent.{refusal_or31}
@@ -12,7 +12,6 @@ use Rattle.records.specs.MadeReady.{readied_over}
 use Rattle.demand3.specs.Held.{Held, carried_of}
 use Rattle.demand3.specs.Feeding.{bench}
 use Rattle.feed.specs.declared.FedPort.{FedPort}
-use Rattle.feed.specs.declared.Opening.{Opening}
 
 -- no number applies before a byte is looked at: none of 1 to 5, and the port is not broken
 abbrev pub NotRefused : Setup → (defaults : List ℕ) → Held → Type 0
@@ -35,16 +34,11 @@ carries_on port input =
       port = record { dev = port.dev; carried = pad 16 (take count rest); carried_len = count; broken = eqb number 31 };
     }
 
--- how a call begins: the first number for which it is refused, else 0, and then the size of the first record that it completes
-pub record Opens (setup : Setup) (defaults : List ℕ) (h : Held) (input : List ℕ) (room : ℕ) (o : Opening) : Type 0 where
-  pub number : o.number ≡ refusal_or31 (bench setup defaults) h
-  pub first : o.number ≡ 0 → o.size ≡ whole_size room (next (carried_of h.port ++ input))
-  pub some : 0 < o.size → o.number ≡ 0
-
--- what a call gives that runs no record: refused, it changes nothing; else it completes none
-pub record Rests (number : ℕ) (port : Port) (input : List ℕ) (r : FedPort) : Type 0 where
-  pub refused : (number ≡ 0 → ⊥) → r ≡ record { number = number; consumed = 0; written = 0; port = port }
-  pub carries : number ≡ 0 → r ≡ carries_on port input
+-- how a call begins: the first number for which it is refused; else the size of the first record that it completes, if it completes one
+abbrev pub Opens : Setup → (defaults : List ℕ) → Held → (input : List ℕ) → (room : ℕ) → Result (Option ℕ) ℕ → Type 0
+Opens setup defaults h input room (Err number) = (number ≡ refusal_or31 (bench setup defaults) h) × (number ≢ 0)
+Opens setup defaults h input room (Ok None) = NotRefused setup defaults h × (whole_size room (next (carried_of h.port ++ input)) ≡ 0)
+Opens setup defaults h input room (Ok (Some size)) = NotRefused setup defaults h × Completes h.port input room size
 
 -- the moments after a call on whole records, with room for all their answers: those of before, with the ready times of all slots that they make Ready
 abbrev pub NotesRecords : Setup → (defaults : List ℕ) → State → (input : List ℕ) → (room : ℕ) → (moments after : List ℕ) → Type 0

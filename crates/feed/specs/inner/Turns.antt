@@ -1,6 +1,5 @@
 -- How a record takes its turn.
-use Rattle.std.specs.Prelude.{ℕ, ◌<◌, ◌≡◌, Bool, true, List}
-use Rattle.std.proofs.Math.Seq.{paste}
+use Rattle.std.specs.Prelude.{ℕ, ◌<◌, ◌≡◌, Bool, true, List, Some}
 use Rattle.times.specs.declared.Nanos.{Nanos}
 use Rattle.times.specs.Moments.{sum_of}
 use Rattle.messages.specs.declared.Message.TheVariants as message
@@ -9,7 +8,7 @@ use Rattle.records.specs.declared.Record.TheVariants as variants
 use Rattle.records.specs.declared.Part.TheVariants.{PortAlone, WholeCard}
 use Rattle.readiness.specs.declared.Setup.{Setup}
 use Rattle.records.specs.State.{State}
-use Rattle.records.specs.Answer.{answer_bytes}
+use Rattle.records.specs.declared.Reply.{Reply}
 use Rattle.records.specs.Run.{run}
 use Rattle.records.specs.MadeReady.{readied}
 use Rattle.readiness.specs.inner.Phases.{notes}
@@ -24,18 +23,18 @@ Takes slots earliest clock link r (turn.Read q) = (r ≡ variants.Read q) × (q.
 Takes slots earliest clock link r (turn.Write q value) = (r ≡ variants.Write q value) × (q.slot < slots)
 Takes slots earliest clock link r (turn.Hardware i word mask) = (r ≡ variants.HardwareSet i word mask) × (i < slots)
 Takes slots earliest clock link r turn.Port = (setup : Setup) → setup.slots ≡ slots → part_of setup r ≡ PortAlone
-Takes slots earliest clock link r (turn.Frs f) = (r ≡ variants.Message (message.Frs f.id f.reason)) × (link ≡ true)
+Takes slots earliest clock link r (turn.Frs f) = (r ≡ variants.Message (Some (message.Frs f.id f.reason))) × (link ≡ true)
 Takes slots earliest clock link r (turn.Clock by) = (r ≡ variants.Advance by) × ((sum_of clock by).0 < earliest.0)
 Takes slots earliest clock link r turn.Card = (setup : Setup) → setup.slots ≡ slots → part_of setup r ≡ WholeCard
 
--- what a record's turn leaves is what its run leaves, and the answer's 8 bytes stand in the slice for answers, from `at` on
-pub record Turned (setup : Setup) (defaults : List ℕ) (s : State) (r : Record) (answers : List ℕ) (at : ℕ) (t : State) (after : List ℕ) : Type 0 where
+-- what a record's turn leaves, and its answer, are those of its run
+pub record Turned (setup : Setup) (defaults : List ℕ) (s : State) (r : Record) (t : State) (a : Reply) : Type 0 where
   pub state : t ≡ (run setup defaults s r).after
-  pub answer : after ≡ paste answers at (answer_bytes (run setup defaults s r).reply) 8
+  pub reply : a ≡ (run setup defaults s r).reply
 
 -- so it is in every sound state
-abbrev pub TakesTurn : (setup : Setup) (defaults : List ℕ) (s : State) (r : Record) (answers : List ℕ) (at : ℕ) (t : State) (after : List ℕ) → Type 0
-TakesTurn setup defaults s r answers at t after = Sound setup s → Fitting setup defaults s → Turned setup defaults s r answers at t after
+abbrev pub TakesTurn : (setup : Setup) (defaults : List ℕ) (s : State) (r : Record) (t : State) (a : Reply) → Type 0
+TakesTurn setup defaults s r t a = Sound setup s → Fitting setup defaults s → Turned setup defaults s r t a
 
 -- and the moments that it leaves are those of before, with the ready times of the slots that the record makes Ready
 abbrev pub NotesTurn : (setup : Setup) (defaults : List ℕ) (s : State) (r : Record) (moments after : List ℕ) → Type 0

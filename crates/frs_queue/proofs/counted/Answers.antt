@@ -1,18 +1,7 @@
--- `frs_queue::counted` meets its contract: the code tests the count, the definition the sum.
-use borrow.Author.Tests.{le-leb, lt-leb}
-use Prim.Native.Nat.{◌+◌, ◌≤◌, ◌<◌}
-use native.Mathlib.Omega.{arith}
-use Rattle.frs_queue.specs.Queue.{counted}
+-- `frs_queue::counted` meets its contract: a count that stops at 255 is the sum, or 255 where the sum is more.
+use mathlib.Core.Path.{sym, ◌∙◌}
+use Rattle.frs_queue.proofs.Tallies.{counted-min}
 use Rattle.frs_queue.proofs.counted.Goals as goal
 
-pub returns-then-count-lt255 : goal.returns-then-count-lt255
-unfolding counted
-returns-then-count-lt255 c =
-    let h : c.args.count + 1 ≤ 255 = omega arith in
-    simp (le-leb _ _ h)
-
-pub returns-else-count-lt255 : goal.returns-else-count-lt255
-unfolding counted
-returns-else-count-lt255 c =
-    let h : 255 < c.args.count + 1 = omega arith in
-    simp (lt-leb _ _ h)
+pub returns : goal.returns
+returns c = c.saturating_add.ensures ∙ sym (counted-min c.args.count 1)

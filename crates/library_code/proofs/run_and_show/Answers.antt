@@ -46,8 +46,8 @@ returns c =
     let fits : length (shows (take k x.fed.statuses)) ≤ length image = omega (arith, size, c.requires.1) in
     let e : put.new.image ≡ shows (take k (lent_of n x.fed.statuses)) ++ drop (length (shows (take k (lent_of n x.fed.statuses)))) image =
     put.ensures.image_after
-    ∙ ap (λ (i : ℕ). sets image 0 (shows (take i x.fed.statuses))) c.at_most.ensures.value
+    ∙ ap (λ (i : ℕ). sets image 0 (shows (take i x.fed.statuses))) c.min.ensures
     ∙ sets-front (shows (take k x.fed.statuses)) image fits
     ∙ ap (λ (l : List Status). shows l ++ drop (length (shows l)) image) (sym (lent-front n k x.fed.statuses (omega arith) (omega arith)))
     in
-    (λ t. shown (c.u64_of_u8.ensures.value t) x.answers (e t)) ∙ ap (λ (y : Left Held). showing k y image) leaves
+    (λ t. shown (c.from.ensures t) x.answers (e t)) ∙ ap (λ (y : Left Held). showing k y image) leaves

@@ -16,19 +16,19 @@ use Rattle.library_code.proofs.run_card.Goals as goal
 pub returns-then-image-image_bytes : goal.returns-then-image-image_bytes
 unfolding run_on_card
 returns-then-image-image_bytes c = let a = c.args in
-    let size : c.image_bytes.result ≡ image_size (at_most a.read.setup.slots 32) (at_most a.read.queue 4095) = c.image_bytes.ensures ∙ (λ t. image_size (c.at_most-slots.ensures.value t) (c.at_most-queue.ensures.value t)) in
+    let size : c.image_bytes.result ≡ image_size (at_most a.card.setup.slots 32) (at_most a.card.queue 4095) = c.image_bytes.ensures ∙ (λ t. image_size (c.min-slots.ensures t) (c.min-queue.ensures t)) in
     sym (when_true _ _ _ (lt-ltb _ _ (subst (λ (n : ℕ). length a.image.now < n) size c.if-image-image_bytes.true)))
 
 pub returns : goal.returns
 unfolding run_on_card
 returns c =
     let a = c.args in
-    let n = c.at_most-slots.result in
-    let q = c.at_most-queue.result in
-    let k = at_most a.read.setup.slots 32 in
-    let m = at_most a.read.queue 4095 in
-    let en : n ≡ k = c.at_most-slots.ensures.value in
-    let eq : q ≡ m = c.at_most-queue.ensures.value in
+    let n = c.min-slots.result in
+    let q = c.min-queue.result in
+    let k = at_most a.card.setup.slots 32 in
+    let m = at_most a.card.queue 4095 in
+    let en : n ≡ k = c.min-slots.ensures in
+    let eq : q ≡ m = c.min-queue.ensures in
     let z₁ : List ℕ = replicate 2048 0 in
     let z₂ : List ℕ = replicate 4095 0 in
     let n₃₂ : 64 * k ≤ 2048 = omega arith in
@@ -38,5 +38,5 @@ returns c =
     let cells : take (q - 0) z₂ ≡ replicate m 0 = ap (λ (j : ℕ). take j z₂) (sub-zero q ∙ eq) ∙ take_same m 4095 0 q₄ in
     let size : c.image_bytes.result ≡ image_size k m = c.image_bytes.ensures ∙ (λ t. image_size (en t) (eq t)) in
     c.run_and_show.ensures
-    ∙ (λ t. showing k (ran_on a.captured a.piece a.read.setup (words t) (blank_held a.read.setup (live t) (cells t)) a.input.now a.answers.now) a.image.now)
+    ∙ (λ t. showing k (ran_on a.captured a.piece a.card.setup (words t) (blank_held a.card.setup (live t) (cells t)) a.input.now a.answers.now) a.image.now)
     ∙ sym (when_false _ _ _ (le-ltb _ _ (subst (λ (j : ℕ). j ≤ length a.image.now) size c.if-image-image_bytes.false)))

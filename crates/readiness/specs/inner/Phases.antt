@@ -1,10 +1,9 @@
 -- Slot statuses as numbers, four to a slot: the phase with its cause, the ready time, the end of an FLR, and the moment at which the slot last became Ready.
-use Rattle.std.specs.Prelude.{ℕ, cond, List, [], ◌∷◌, eqb, set}
+use Rattle.times.specs.declared.Nanos.{Nanos}
+use Rattle.std.specs.Prelude.{ℕ, cond, List, [], ◌∷◌, eqb, set, Option, None, Some}
 use Rattle.times.specs.Moments.{greatest_nanos}
 use Rattle.readiness.specs.declared.Cause.TheVariants.{LinkUp, Flr, D3hot}
 use Rattle.readiness.specs.declared.Status.{Status}
-use Rattle.readiness.specs.declared.Moment.{Moment}
-use Rattle.readiness.specs.declared.Moment.TheVariants.{Never, At}
 use Rattle.readiness.specs.Status.{down, pending, ready}
 use Rattle.readiness.specs.Events.{Event}
 
@@ -39,15 +38,15 @@ notes [] l = l
 notes (e ∷ es) l = notes es (set l e.slot e.time.0)
 
 -- one slot did, if it did
-abbrev pub notes_at : Moment → (slot : ℕ) → List ℕ → List ℕ
-notes_at Never slot l = l
-notes_at (At t) slot l = set l slot t.0
+abbrev pub notes_at : Option Nanos → (slot : ℕ) → List ℕ → List ℕ
+notes_at None slot l = l
+notes_at (Some t) slot l = set l slot t.0
 
 -- the moments of before, and those of the numbers: the greatest moment there is, which no sound clock reaches, stands for none
-abbrev pub moment_with : Moment → ℕ → Moment
-moment_with m t = cond (eqb t greatest_nanos) m (At (record { 0 = t }))
+abbrev pub moment_with : Option Nanos → ℕ → Option Nanos
+moment_with m t = cond (eqb t greatest_nanos) m (Some (record { 0 = t }))
 
-unfoldable pub moments_with : List Moment → List ℕ → List Moment
+unfoldable pub moments_with : List (Option Nanos) → List ℕ → List (Option Nanos)
 moments_with [] l = []
 moments_with (m ∷ ms) [] = m ∷ ms
 moments_with (m ∷ ms) (t ∷ l) = moment_with m t ∷ moments_with ms l

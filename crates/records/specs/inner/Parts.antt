@@ -1,21 +1,21 @@
 -- A record by the part of the state that it touches: one slot, the root port alone, or the whole card.
-use Rattle.std.specs.Prelude.{ℕ, Bool, true, false, cond, List, [], ltb, set}
+use Rattle.std.specs.Prelude.{ℕ, cond, List, [], ltb, set, Result, Ok, Err}
 use Rattle.registers.specs.declared.Kind.{Kind}
 use Rattle.frs_queue.specs.Queue.{no_tally}
 use Rattle.readiness.specs.declared.Slot.{Slot}
 use Rattle.readiness.specs.declared.Setup.{Setup}
+use Rattle.readiness.specs.declared.Dev.{Dev}
 use Rattle.readiness.specs.declared.Status.{Status}
 use Rattle.readiness.specs.Events.{Event, due_event}
 use Rattle.readiness.specs.inner.OneSlot.{slot_settles}
 use Rattle.records.specs.declared.Record.{Record}
 use Rattle.records.specs.declared.Record.TheVariants.{Advance, Read, Write, Message, LinkUp, LinkDown, ColdReset, ReadQueue, RemoveOldest, ClearBits, Control, HardwareSet, ReadBits, NoKind}
+use Rattle.records.specs.declared.Completion.{Completion}
 use Rattle.records.specs.declared.Completion.TheVariants as completion
 use Rattle.records.specs.declared.Part.{Part}
 use Rattle.records.specs.declared.Part.TheVariants.{OneSlot, PortAlone, WholeCard}
 use Rattle.records.specs.declared.SlotDone.{SlotDone}
 use Rattle.records.specs.declared.PortDone.{PortDone}
-use Rattle.records.specs.declared.Started.{Started}
-use Rattle.records.specs.declared.Started.TheVariants as started
 use Rattle.records.specs.State.{State, state, Seat, seat}
 use Rattle.records.specs.Answer.{Effect, refused, does, Ran, reply, answered}
 use Rattle.records.specs.Requests.{read_effect, write_effect, hardware_effect}
@@ -130,14 +130,10 @@ card_run setup defaults r s = answered setup s (card_effect setup defaults r s)
 abbrev pub card_ran : PortDone → (statuses : List Status) → (live cells : List ℕ) → Ran State
 card_ran x statuses live cells = record { after = state x.dev statuses live cells; reply = x.reply }
 
--- what a record has done before slots become Ready, with the statuses and the live registers that it left
-abbrev pub started_effect : Started → (statuses : List Status) → (live cells : List ℕ) → Effect State
-started_effect (started.Refused completion) statuses live cells = refused completion 0
-started_effect (started.Does dev) statuses live cells = does (state dev statuses live cells) no_tally 0
-
-abbrev pub is_refused : Started → Bool
-is_refused (started.Refused completion) = true
-is_refused (started.Does dev) = false
+-- what a record has done before slots become Ready, with the statuses and the live registers that it left: it is refused, or leaves a device
+abbrev pub started_effect : Result Dev Completion → (statuses : List Status) → (live cells : List ℕ) → Effect State
+started_effect (Err completion) statuses live cells = refused completion 0
+started_effect (Ok dev) statuses live cells = does (state dev statuses live cells) no_tally 0
 
 -- ---- a part put back into the state
 abbrev pub slot_put : State → (slot : ℕ) → Ran Seat → Ran State

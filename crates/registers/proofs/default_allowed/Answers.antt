@@ -3,7 +3,6 @@ use mathlib.Core.Path.{ap, refl}
 use Prim.Native.Nat.{ℕ}
 use native.Mathlib.Omega.{arith}
 use lib.Dec.{eqb}
-use borrow.Author.Rules.{rules}
 use Rattle.bits.proofs.Bits.{is_arg, is_of_lem, is_and, is_the}
 use Rattle.registers.specs.Rows.{default_allowed}
 use Rattle.registers.proofs.default_allowed.Goals as goal

@@ -4,7 +4,6 @@ use native.Mathlib.Omega.{arith}
 use Rattle.bits.proofs.Bits.{is_of_lem, is_and, is_or, is_not, is_the}
 use Rattle.registers.specs.declared.Row.{Row}
 use Rattle.registers.specs.inner.Masks.{flr_mask}
-use borrow.Author.Rules.{rules}
 use Rattle.registers.proofs.flr_mask.Goals as goal
 
 pub returns : goal.returns

@@ -4,7 +4,6 @@ use native.Mathlib.Omega.{arith}
 use Rattle.bits.proofs.Bits.{is_arg, is_of_lem, is_and, is_or, is_the}
 use Rattle.registers.specs.declared.Row.{Row}
 use Rattle.registers.specs.Words.{hardware_set}
-use borrow.Author.Rules.{rules}
 use Rattle.registers.proofs.hardware_set.Goals as goal
 
 pub returns : goal.returns

@@ -1,5 +1,5 @@
 -- `registers::lane_mask` meets its contract.
-use Rattle.bits.proofs.Lanes.{spread_lt, spread_is}
+use Rattle.bits.proofs.Lanes.{spread_is}
 use Rattle.registers.specs.Words.{lane_mask}
 use borrow.Author.Rules.{rules}
 use Rattle.registers.proofs.lane_mask.Goals as goal

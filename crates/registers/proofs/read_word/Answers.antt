@@ -3,7 +3,6 @@ use mathlib.Core.Path.{refl}
 use native.Mathlib.Omega.{arith}
 use Rattle.bits.proofs.Bits.{is_arg, is_of_lem, is_word, is_and, is_not, is_the}
 use Rattle.registers.specs.Words.{lane_mask, read_word}
-use borrow.Author.Rules.{rules}
 use Rattle.registers.proofs.read_word.Goals as goal
 
 pub returns : goal.returns

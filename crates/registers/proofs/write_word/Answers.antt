@@ -6,7 +6,6 @@ use Rattle.registers.specs.declared.Row.{Row}
 use Rattle.registers.specs.Words.{lane_mask, write_word}
 use Rattle.registers.specs.inner.Masks.{held}
 use Rattle.registers.proofs.Rules.{write_bit_lem}
-use borrow.Author.Rules.{rules}
 use Rattle.registers.proofs.write_word.Goals as goal
 
 pub returns : goal.returns

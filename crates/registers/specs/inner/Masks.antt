@@ -1,5 +1,5 @@
 -- How the code goes about it: where the masks of a word lie in the table, and what is done to a word by masks.
-use Rattle.std.specs.Prelude.{ℕ, Bool, not, ◌&&◌, ◌||◌, [], ◌∷◌, eqb, get_or}
+use Rattle.std.specs.Prelude.{ℕ, not, ◌&&◌, ◌||◌, [], ◌∷◌, get_or}
 use Rattle.bits.specs.Bits.{bit, word}
 use Rattle.registers.specs.declared.Row.{Row}
 use Rattle.registers.specs.declared.Kind.{Kind}
@@ -10,10 +10,6 @@ use Rattle.registers.specs.Words.{held_bit, reset_bit}
 -- where the masks of a kind start
 abbrev pub start_of : Kind → ℕ
 start_of Endpoint = 0
-
--- two kinds are the same: each has its own place in the table
-abbrev pub same_kind : (a b : Kind) → Bool
-same_kind a b = eqb (start_of a) (start_of b)
 
 -- a row's masks in order
 abbrev pub column : ℕ → Row → ℕ

@@ -14,7 +14,7 @@ use Rattle.feed.specs.inner.Calls.{carries_on}
 use Rattle.replay_state.specs.inner.Moves.{Tidy}
 use Rattle.replay_rules.specs.KeepingMoments.{HeldNoting, noting_bench}
 use Rattle.replay.specs.inner.Noted.{Noted, noting_device}
-use Rattle.replay.specs.declared.Stretch.{Stretch}
+use Rattle.replay.specs.declared.End.{End}
 use Rattle.replay.specs.declared.ReplayedPort.{ReplayedPort}
 
 -- the state of a replay between records, as a call leaves it: at most 4 stamp bytes, and no more advances answered than are due
@@ -33,13 +33,13 @@ abbrev pub took_kind_of : Replay → (consumed : ℕ) → Replay
 took_kind_of r consumed = when eqb consumed 0 then r else replay_of (begins (progress_in r))
 
 -- what is left of the input begins a record, or none
-abbrev pub ends_left : Dev → Stretch → (input : List ℕ) → (w : ℕ) → ReplayedPort
+abbrev pub ends_left : Dev → End → (input : List ℕ) → (w : ℕ) → ReplayedPort
 ends_left dev end input w =
     let x = carries_on (opened dev) (drop end.at input) in
     record { number = x.number; consumed = end.at + x.consumed; written = w; port = x.port; replay = took_kind_of end.replay x.consumed }
 
 -- THE END OF A CALL, which runs no record more, with w bytes written
-abbrev pub ends_at : Dev → Stretch → (input : List ℕ) → (w : ℕ) → ReplayedPort
+abbrev pub ends_at : Dev → End → (input : List ℕ) → (w : ℕ) → ReplayedPort
 ends_at dev end input w =
     when eqb end.number 0
     then ends_left dev end input w

@@ -1,5 +1,5 @@
 -- A stretch of a capture, written out as the trace that it stands for.
-use Rattle.std.specs.Prelude.{ℕ, ◌+◌, ◌-◌, ◌*◌, ◌≤◌, ◌<◌, ◌≡◌, Bool, false, ◌&&◌, List, [], ◌∷◌, length, get_or, take, drop, eqb}
+use Rattle.std.specs.Prelude.{ℕ, ◌+◌, ◌-◌, ◌*◌, ◌≤◌, ◌<◌, ◌≡◌, Bool, false, ◌&&◌, List, [], ◌∷◌, length, get_or, take, drop, eqb, Option, Some, None, Result, Ok, Err}
 use Rattle.times.specs.declared.Nanos.{Nanos}
 use Rattle.ticks.specs.declared.Stamp.{Stamp}
 use Rattle.trace.specs.Format.{when◌then◌else◌, Bytes, size_of}
@@ -7,12 +7,14 @@ use Rattle.trace.specs.Bench.{Bench, runs}
 use Rattle.trace.specs.Exactly.{joined_up, AllWhole}
 use Rattle.readiness.specs.declared.Setup.{Setup}
 use Rattle.capture.specs.declared.Replay.{Replay}
-use Rattle.capture.specs.Advances.{was, stamp_in, back, due}
+use Rattle.capture.specs.Advances.{stamp_in, back, due}
 use Rattle.capture.specs.Replay.{Progress, later, replay_open}
 use Rattle.capture.specs.Lent.{progress_in}
-use Rattle.replay_state.specs.declared.Due.{Due}
 use Rattle.replay_state.specs.inner.Moves.{due_of}
+use Rattle.replay.specs.declared.Run.{Run}
+use Rattle.replay.specs.declared.Run.TheVariants.{Advance, Record}
 use Rattle.replay.specs.declared.Step.{Step}
+use Rattle.replay.specs.declared.End.{End}
 use Rattle.replay.specs.declared.Stretch.{Stretch}
 use Rattle.replay.specs.declared.Entry.{Entry}
 use Rattle.replay.specs.inner.Noted.{Noted, noting_device}
@@ -24,17 +26,14 @@ use Rattle.replay.specs.inner.Calls.{Between}
 abbrev pub size_in_entry : (kind : ℕ) → ℕ
 size_in_entry kind = when eqb kind 1 then 0 else size_of kind
 
--- the advances as the code holds them
-abbrev pub advances_in : Due → List Nanos
-advances_in d = when eqb d.count 0 then [] else (when eqb d.count 1 then d.first ∷ [] else d.first ∷ d.second ∷ [])
-
 -- an entry at byte `at`, after the stamp `before`: all of it is there, the recorder did not go back, and there is room for its bytes and its answers
 pub record StandsNext (before : Stamp) (input : List ℕ) (at space room : ℕ) (e : Entry) : Type 0 where
   pub there : at + 21 ≤ length input
   pub stamp : e.stamp ≡ stamp_in (take 4 (drop at input))
-  pub forward : back (was before) (stamp_in (take 4 (drop at input))) ≡ false
+  pub forward : back (Some before) (stamp_in (take 4 (drop at input))) ≡ false
   pub size : e.size ≡ size_in_entry (get_or input (at + 4) 0)
-  pub due : e.due ≡ due_of (due (was before) (take 4 (drop at input)))
+  pub some : 0 < e.size
+  pub due : e.due ≡ due_of (due (Some before) (take 4 (drop at input)))
   pub answers : 24 ≤ space
   pub bytes : 27 ≤ room
 
@@ -61,16 +60,26 @@ pub record WrittenOut (q : Progress) (space at : ℕ) (input : List ℕ) (q' : P
       ≡ later (at' - at) x.answer (replay_open D (open_in x.state) q' (space - answers) (drop at' input)))
 
 -- ---- What stands next in a call
--- the replay stands between two entries
-abbrev pub stands_after_entry : Replay → Bool
-stands_after_entry r = r.begun && eqb r.stamp_len 0 && eqb r.ended 0
+-- the stamp of the entry before, if the replay stands between two entries
+abbrev pub stamp_before : Replay → Option Stamp
+stamp_before r = when eqb r.stamp_len 0 && eqb r.ended 0 then r.earlier else None
 
--- the call ends at a step
-abbrev pub end_of : Step → Stretch
-end_of step = record { number = step.number; len = 0; answers = 0; replay = step.replay; at = step.at }
+-- a record of a step is no longer than the longest, and ends no sooner than it begins
+abbrev pub RunFits : Run → (at : ℕ) → Type 0
+RunFits (Advance t) at = Unit {0}
+RunFits (Record size) at = (size ≤ 17) × (size ≤ at)
 
--- RECORDS THAT RUN, the bytes of which stand at the front of `trace`; or, with no answers, the end of the call
-pub record Follows (r : Replay) (space at : ℕ) (input : List ℕ) (s : Stretch) (trace : List ℕ) : Type 0 where
+abbrev pub StepFits : Step → Type 0
+StepFits step = RunFits step.run step.at
+
+-- RECORDS THAT RUN, the bytes of which stand at the front of `trace`
+pub record Stretched (r : Replay) (space at : ℕ) (input : List ℕ) (s : Stretch) (trace : List ℕ) : Type 0 where
   pub few : s.len ≤ length trace
-  pub runs : 0 < s.answers → Between s.replay × WrittenOut (progress_in r) space at input (progress_in s.replay) s.at s.answers (take s.len trace)
-  pub ends : s.answers ≡ 0 → (let step = step_of (progress_in r) space at input in (step.runs ≡ false) × (s ≡ end_of step))
+  pub some : 0 < s.answers
+  pub between : Between s.replay
+  pub written : WrittenOut (progress_in r) space at input (progress_in s.replay) s.at s.answers (take s.len trace)
+
+-- or the end of the call
+abbrev pub Follows : Replay → (space at : ℕ) → (input : List ℕ) → Result Stretch End → (trace : List ℕ) → Type 0
+Follows r space at input (Ok s) trace = Stretched r space at input s trace
+Follows r space at input (Err end) trace = step_of (progress_in r) space at input ≡ Err end

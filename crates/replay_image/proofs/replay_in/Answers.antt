@@ -6,4 +6,4 @@ use Rattle.replay_image.proofs.replay_in.Goals as goal
 pub returns : goal.returns
 unfolding replay_in
 returns c =
-    λ i. record { begun = c.is_yes.ensures i; earlier = c.earlier_in.ensures i; stamp_len = (c.usize_of_u8.ensures.value ∙ c.byte_at.ensures) i; stamp = c.stamp_bytes_in.ensures i; answered = c.byte_at-2.ensures i; ended = c.byte_at-3.ensures i }
+    λ i. record { earlier = c.earlier_in.ensures i; stamp_len = (c.from.ensures ∙ c.byte_at.ensures) i; stamp = c.stamp_bytes_in.ensures i; answered = c.byte_at-2.ensures i; ended = c.byte_at-3.ensures i }

@@ -10,5 +10,5 @@ pub returns : goal.returns
 unfolding bytes_from listed
 returns c =
     c.up_to.ensures
-    ∙ λ i. up_to ((c.usize_of_u8.ensures.value ∙ c.byte_at-5.ensures) i)
+    ∙ λ i. up_to ((c.from.ensures ∙ c.byte_at-5.ensures) i)
     (c.byte_at.ensures i ∷ c.byte_at-2.ensures i ∷ c.byte_at-3.ensures i ∷ c.byte_at-4.ensures i ∷ [])

@@ -1,5 +1,5 @@
 -- How the code moves the state of a replay.
-use Rattle.std.specs.Prelude.{ℕ, ◌≡◌, List, [], ◌∷◌, ◌++◌, eqb}
+use Rattle.std.specs.Prelude.{ℕ, ◌≡◌, List, [], ◌∷◌, ◌++◌, eqb, Option, Some, None}
 use Rattle.times.specs.declared.Nanos.{Nanos}
 use Rattle.trace.specs.Format.{when◌then◌else◌}
 use Rattle.capture.specs.declared.Replay.{Replay}
@@ -7,6 +7,7 @@ use Rattle.capture.specs.Advances.{stamp_in, back}
 use Rattle.capture.specs.Replay.{Progress}
 use Rattle.capture.specs.Lent.{progress_in, replay_of}
 use Rattle.replay_state.specs.declared.Due.{Due}
+use Rattle.replay_state.specs.declared.Due.TheVariants.{Nothing, One, Two}
 
 -- a state as a call leaves it: 0 where it says nothing
 abbrev pub Tidy : Replay → Type 0
@@ -16,16 +17,18 @@ Tidy r = r ≡ replay_of (progress_in r)
 abbrev pub more_bytes : List ℕ → Progress → Progress
 more_bytes bs r = record { earlier = r.earlier; stamp = r.stamp ++ bs; answered = r.answered; ended = r.ended }
 
--- no time
-abbrev pub no_time : Nanos
-no_time = record { 0 = 0 }
-
 -- at most two advances, as the code holds them
 abbrev pub due_of : List Nanos → Due
-due_of [] = record { count = 0; first = no_time; second = no_time }
-due_of (t ∷ []) = record { count = 1; first = t; second = no_time }
-due_of (t ∷ u ∷ more) = record { count = 2; first = t; second = u }
+due_of [] = Nothing
+due_of (t ∷ []) = One t
+due_of (t ∷ u ∷ more) = Two t u
 
--- what is checked at the kind byte before the advances: 32, then 33, else 0
-abbrev pub checked_at : Progress → (kind : ℕ) → ℕ
-checked_at r kind = when back r.earlier (stamp_in r.stamp) then 32 else (when eqb kind 1 then 33 else 0)
+-- and which they are
+abbrev pub advances_in : Due → List Nanos
+advances_in Nothing = []
+advances_in (One t) = t ∷ []
+advances_in (Two t u) = t ∷ u ∷ []
+
+-- what is checked at the kind byte before the advances: 32, then 33
+abbrev pub checked_at : Progress → (kind : ℕ) → Option ℕ
+checked_at r kind = when back r.earlier (stamp_in r.stamp) then Some 32 else (when eqb kind 1 then Some 33 else None)

@@ -43,9 +43,6 @@ slice_bounds-feed_lent-end c =
     let some : 0 < length a.trace.now - l.loop-consumed.consumed = omega (arith, c.loop-consumed-test.true) in
     omega (arith, c.next_piece.ensures, (piece_bounds a.size (length a.trace.now - l.loop-consumed.consumed) some).1)
 
-pub feed_lent-fed-requires : goal.feed_lent-fed-requires
-feed_lent-fed-requires c = c.attributes-table.ensures
-
 pub overflow_add-consumed : goal.overflow_add-consumed
 overflow_add-consumed c =
     let first : List ℕ = c.in_numbers-phases.result in

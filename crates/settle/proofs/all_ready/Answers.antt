@@ -8,19 +8,19 @@ use Rattle.settle.proofs.Statuses.{ready_cons, ready_end}
 use Rattle.settle.proofs.all_ready.Goals as goal
 
 pub loop-i-init : goal.loop-i-init
-loop-i-init c = (omega arith, λ setup. refl)
+loop-i-init c = λ setup. refl
 
 pub loop-i-preserved : goal.loop-i-preserved
 loop-i-preserved c =
     let at = c in
-    (omega arith, λ setup. sym (ready_cons setup (statuses_in at.args.phases.now) _ at.loop-i.i true (omega arith) (ap is_ready (sym c.status_at-s.ensures) ∙ sym c.is_ready.ensures ∙ c.if-is_ready.true)) ∙ at.loop-i.invariant.1 setup)
+    λ setup. sym (ready_cons setup (statuses_in at.args.phases.now) _ at.loop-i.i true (omega arith) (ap is_ready (sym c.status_at.ensures) ∙ sym c.is_ready.ensures ∙ c.if-not-is_ready.false)) ∙ at.loop-i.invariant setup
 
-pub returns-else-is_ready : goal.returns-else-is_ready
-returns-else-is_ready c =
+pub returns-then-not-is_ready : goal.returns-then-not-is_ready
+returns-then-not-is_ready c =
     let at = c in
-    λ setup n. sym (ready_cons setup (statuses_in at.args.phases.now) _ at.loop-i.i false (omega arith) (ap is_ready (sym c.status_at-s.ensures) ∙ sym c.is_ready.ensures ∙ c.if-is_ready.false)) ∙ at.loop-i.invariant.1 setup
+    λ setup n. sym (ready_cons setup (statuses_in at.args.phases.now) _ at.loop-i.i false (omega arith) (ap is_ready (sym c.status_at.ensures) ∙ sym c.is_ready.ensures ∙ c.if-not-is_ready.true)) ∙ at.loop-i.invariant setup
 
 pub returns : goal.returns
 returns c =
     let at = c in
-    λ setup n. sym (ready_end setup (statuses_in at.args.phases.now) at.loop-i.i (omega arith)) ∙ at.loop-i.invariant.1 setup
+    λ setup n. sym (ready_end setup (statuses_in at.args.phases.now) at.loop-i.i (omega arith)) ∙ at.loop-i.invariant setup

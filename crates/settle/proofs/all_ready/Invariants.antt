@@ -1,5 +1,4 @@
 -- `settle::all_ready` meets its contract: what is left to look at decides.
-use Prim.Native.Nat.{◌≤◌, ◌-◌}
 use mathlib.Core.Path.{◌≡◌}
 use lib.ListN.{drop}
 use Rattle.readiness.specs.declared.Setup.{Setup}
@@ -8,7 +7,4 @@ use Rattle.readiness.specs.inner.Phases.{statuses_in}
 use Rattle.settle.proofs.all_ready.Given as goal
 
 abbrev pub invariant-loop-i : goal.invariant-loop-i
-invariant-loop-i l = (l.i ≤ l.slots) × ((setup : Setup) → all_ready_from setup l.i (drop l.i (statuses_in l.phases)) ≡ all_ready setup (statuses_in l.phases))
-
-abbrev pub decreases-loop-i : goal.decreases-loop-i
-decreases-loop-i l = l.slots - l.i
+invariant-loop-i l = (setup : Setup) → all_ready_from setup l.i (drop l.i (statuses_in l.phases)) ≡ all_ready setup (statuses_in l.phases)

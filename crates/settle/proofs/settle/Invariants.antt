@@ -9,17 +9,14 @@ use Rattle.readiness.proofs.AtTheEnd.{all_happen}
 use Rattle.settle.proofs.Settling.{Left, LeftTimes}
 use Rattle.settle.proofs.settle.Given as goal
 
-abbrev pub invariant-loop-left : goal.invariant-loop-left
-invariant-loop-left l =
+abbrev pub invariant-loop-place : goal.invariant-loop-place
+invariant-loop-place l =
     (length l.phases ≡ length l.initial.phases)
     × (length l.cells ≡ length l.initial.cells)
     × (length (statuses_in l.phases) ≡ l.setup.slots)
     × (l.setup.slots ≤ 32)
-    × (l.left ≤ 32)
-    × Left l.slots l.left (due l.initial.p.dev.clock (statuses_in l.phases))
-    × LeftTimes l.times l.left (due l.initial.p.dev.clock (statuses_in l.phases))
+    × (l.place ≤ 32)
+    × Left l.slots l.place (due l.initial.p.dev.clock (statuses_in l.phases))
+    × LeftTimes l.times l.place (due l.initial.p.dev.clock (statuses_in l.phases))
     × (notes (due l.initial.p.dev.clock (statuses_in l.phases)) (moments_in l.phases) ≡ notes (due l.initial.p.dev.clock (statuses_in l.initial.phases)) (moments_in l.initial.phases))
     × (all_happen l.setup (due l.initial.p.dev.clock (statuses_in l.phases)) (scene (statuses_in l.phases) l.cells l.p) ≡ all_happen l.setup (due l.initial.p.dev.clock (statuses_in l.initial.phases)) (scene (statuses_in l.initial.phases) l.initial.cells l.initial.p))
-
-abbrev pub decreases-loop-left : goal.decreases-loop-left
-decreases-loop-left l = l.left

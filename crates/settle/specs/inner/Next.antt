@@ -1,18 +1,17 @@
 -- The first of the slots that become Ready, whether one does, and whether one waits on.
-use Rattle.std.specs.Prelude.{Bool, false, not, ◌&&◌, ◌||◌, List, [], ◌∷◌, leb}
+use Rattle.std.specs.Prelude.{Bool, false, not, ◌&&◌, ◌||◌, List, [], ◌∷◌, leb, Option, None, Some}
 use Rattle.times.specs.declared.Nanos.{Nanos}
 use Rattle.readiness.specs.declared.Phase.{Phase}
 use Rattle.readiness.specs.declared.Phase.TheVariants.{Down, Pending, Ready}
 use Rattle.readiness.specs.declared.Status.{Status}
-use Rattle.settle.specs.declared.Due.{Due}
-use Rattle.settle.specs.declared.Due.TheVariants.{Nothing, At}
+use Rattle.readiness.specs.declared.Cause.{Cause}
 use Rattle.readiness.specs.Status.{is_ready}
 use Rattle.readiness.specs.Events.{Event}
 
--- the first of the slots that become Ready, if any
-abbrev pub first_due : List Event → Due
-first_due [] = Nothing
-first_due (e ∷ l) = At e.slot e.cause e.time
+-- the cause and the ready time of the first of the slots that become Ready, if any
+abbrev pub first_due : List Event → Option (Cause × Nanos)
+first_due [] = None
+first_due (e ∷ l) = Some (e.cause, e.time)
 
 -- the slot's ready time is at or before a moment
 abbrev pub due_by : Nanos → Phase → Bool

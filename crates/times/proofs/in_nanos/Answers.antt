@@ -1,10 +1,8 @@
 -- `times::in_nanos` meets its contract: 511 times the greatest power fits.
 use mathlib.Core.Path.{◌≡◌, ap}
-use Prim.Native.Nat.{ℕ, ◌*◌, ◌/◌, ◌%◌, ◌≤◌, ◌<◌}
+use Prim.Native.Nat.{ℕ, ◌*◌}
 use native.Mathlib.Omega.{arith}
-use borrow.Author.Rules.{rules}
 use Rattle.times.specs.declared.Code.{Code}
-use Rattle.times.specs.declared.Nanos.{Nanos}
 use Rattle.times.specs.Codes.{power_of, nanos_of, value_of, scale_of}
 use Rattle.times.proofs.Laws.{code_most}
 use Rattle.times.proofs.in_nanos.Goals as goal

@@ -1,21 +1,21 @@
--- `times::sum` meets its contract: the code tests what room is left, the definition tests the sum.
-use mathlib.Core.Path.{◌≡◌, ap, sym}
-use mathlib.Core.Bool.{Bool, cond}
-use Prim.Native.Nat.{◌+◌, ◌≤◌, ◌<◌}
+-- `times::sum` meets its contract.
+use mathlib.Core.Path.{◌≡◌, ap, ◌∙◌}
+use mathlib.Core.Bool.{cond}
+use Prim.Native.Nat.{ℕ, min}
 use native.Mathlib.Omega.{arith}
-use borrow.Author.Rules.{rules}
-use borrow.Author.Tests.{le-leb, lt-leb}
-use Rattle.times.specs.Moments.{sum_of, greatest_nanos}
+use lib.Dec.{leb}
+use borrow.Author.Tests.{leb-true, leb-false}
+use Rattle.bits.proofs.Tests.{split}
+use Rattle.times.specs.Moments.{sum_of}
 use Rattle.times.proofs.sum.Goals as goal
 
-pub returns-then-b-room : goal.returns-then-b-room
-unfolding sum_of
-returns-then-b-room c =
-    let h : c.args.t.0 + c.args.by.0 ≤ greatest_nanos = omega arith in
-    ap (λ (b : Bool). record { 0 = cond b (c.args.t.0 + c.args.by.0) greatest_nanos }) (sym (le-leb _ _ h))
+-- the lesser of two by a test
+by_test : (x most : ℕ) → min x most ≡ cond (leb x most) x most
+by_test x most =
+    split (leb x most)
+    (λ t. let h = leb-true x most t in rw t (omega arith))
+    (λ t. let h = leb-false x most t in rw t (omega arith))
 
-pub returns-else-b-room : goal.returns-else-b-room
+pub returns : goal.returns
 unfolding sum_of
-returns-else-b-room c =
-    let h : greatest_nanos < c.args.t.0 + c.args.by.0 = omega arith in
-    ap (λ (b : Bool). record { 0 = cond b (c.args.t.0 + c.args.by.0) greatest_nanos }) (sym (lt-leb _ _ h))
+returns c = ap (λ (n : ℕ). record { 0 = n }) (c.saturating_add.ensures ∙ by_test _ _)

@@ -50,7 +50,7 @@ four_in-requires-in-12 c = omega (arith, size_12, whole c.args.input.now c.args.
 pub returns-in-1 : goal.returns-in-1
 returns-in-1 c =
     let a = c.args in
-    reads_1 a.input.now a.at c.in-1.is _ (c.nanos_of.ensures ∙ ap (λ (n : ℕ). record { 0 = n }) (c.u64_of_u32.ensures.value ∙ c.four_in.ensures))
+    reads_1 a.input.now a.at c.in-1.is _ (c.nanos_of.ensures ∙ ap (λ (n : ℕ). record { 0 = n }) (c.from.ensures ∙ c.four_in.ensures))
 
 pub returns-in-2 : goal.returns-in-2
 returns-in-2 c = let a = c.args in reads_2 a.input.now a.at c.in-2.is _ c.request_at.ensures
@@ -85,7 +85,7 @@ returns-in-11 c = let a = c.args in reads_11 a.input.now a.at c.in-11.is
 pub returns-in-12 : goal.returns-in-12
 returns-in-12 c =
     let a = c.args in
-    reads_12 a.input.now a.at c.in-12.is _ _ _ c.usize_of_u8.ensures.value c.usize_of_u8-in-12.ensures.value c.four_in-in-12.ensures
+    reads_12 a.input.now a.at c.in-12.is _ _ _ c.from-in-12.ensures c.from-in-12-2.ensures c.four_in-in-12.ensures
 
 pub returns-in-13 : goal.returns-in-13
 returns-in-13 c = sym (decode_13 _ (kind c.args.input.now c.args.at 13 c.in-13.is))

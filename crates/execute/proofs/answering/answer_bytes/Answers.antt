@@ -4,4 +4,4 @@ use Rattle.execute.proofs.answering.answer_bytes.Goals as goal
 
 pub returns : goal.returns
 unfolding answer_bytes
-returns c = rw (c.completion_number-status.ensures, c.interrupt_bits-raised.ensures)
+returns c = rw (c.to_le_bytes.ensures, c.completion_number.ensures, c.interrupt_bits.ensures)

@@ -1,22 +1,19 @@
 -- `execute::card::reset_links` meets its contract: the slots before slot i are reset, one after the other.
 use Prim.Native.Nat.{ℕ}
 use native.Mathlib.Omega.{arith}
-use mathlib.Core.Path.{◌≡◌, sym, ap, ap₂, ◌∙◌}
+use mathlib.Core.Path.{◌≡◌, ap, ap₂, ◌∙◌}
 use mathlib.Core.List.{List}
 use Rattle.registers.specs.declared.Kind.{Kind}
 use Rattle.config_space.specs.Functions.{link_reset_slot}
 use Rattle.config_space.specs.inner.SlotAfterSlot.{link_reset_below}
 use Rattle.config_space.proofs.Slots.{slot_after_slot, below_none, below_more}
-use Rattle.config_words.specs.declared.LinkMasks.{LinkMasks}
-use Rattle.config_words.specs.inner.Resetting.{link_masks_of}
 use Rattle.records.specs.State.{slot_kind}
 use Rattle.execute.proofs.card.reset_links.Goals as goal
 
 pub loop-i-init : goal.loop-i-init
 loop-i-init c =
-    let e = c.link_masks_of-last.ensures in
     let a = c.args in
-    (omega arith, below_none (slot_kind a.setup) a.live.now a.defaults.now, e ∙ ap (λ (m : LinkMasks). link_masks_of m.kind) (sym e))
+    (omega arith, below_none (slot_kind a.setup) a.live.now a.defaults.now)
 
 pub loop-i-preserved : goal.loop-i-preserved
 loop-i-preserved c =
@@ -29,7 +26,6 @@ loop-i-preserved c =
       r.live_after
           ∙ ap₂ (λ (kind : Kind) (live : List ℕ). link_reset_slot kind l.loop-i.i live a.defaults.now) k l.loop-i.invariant.1
           ∙ below_more kinds a.live.now a.defaults.now l.loop-i.i,
-      r.value ∙ ap (λ (m : LinkMasks). link_masks_of m.kind) (sym r.value),
     )
 
 pub returns : goal.returns

@@ -1,14 +1,10 @@
 -- `execute::card::reset_links` meets its contract: the slots before slot i are reset, one after the other.
-use Prim.Native.Nat.{◌-◌, ◌≤◌}
+use Prim.Native.Nat.{◌≤◌}
 use mathlib.Core.Path.{◌≡◌}
 use Rattle.config_space.specs.inner.SlotAfterSlot.{link_reset_below}
-use Rattle.config_words.specs.inner.Resetting.{link_masks_of}
 use Rattle.records.specs.State.{slot_kind}
 use Rattle.execute.proofs.card.reset_links.Given as goal
 
 abbrev pub invariant-loop-i : goal.invariant-loop-i
 invariant-loop-i l =
-    (l.i ≤ l.setup.slots) × (l.live ≡ link_reset_below (slot_kind l.setup) l.i l.initial.live l.defaults) × (l.last ≡ link_masks_of l.last.kind)
-
-abbrev pub decreases-loop-i : goal.decreases-loop-i
-decreases-loop-i l = l.setup.slots - l.i
+    (l.i ≤ l.setup.slots) × (l.live ≡ link_reset_below (slot_kind l.setup) l.i l.initial.live l.defaults)

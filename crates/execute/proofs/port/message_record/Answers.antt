@@ -12,9 +12,9 @@ returns-then-dev c =
     let a = c.args in
     c.receive.ensures ∙ ap (port_answered (front a.dev a.cells.now)) (sym (when_true a.dev.link _ _ c.if-dev.true))
 
-pub returns : goal.returns
+pub returns-else-dev : goal.returns-else-dev
 unfolding message_effect port_answered
-returns c =
+returns-else-dev c =
     let a = c.args in
     let p = front a.dev a.cells.now in
     ap (λ (x : PortDone). port_ran x p.cells) c.done.ensures ∙ ap (port_answered p) (sym (when_false a.dev.link _ _ c.if-dev.false))

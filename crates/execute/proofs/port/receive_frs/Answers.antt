@@ -10,7 +10,6 @@ use Rattle.execute.proofs.port.receive_frs.Goals as goal
 pub returns : goal.returns
 unfolding port_run port_effect port_answered message_effect message_done frs_arrive arrive_all
 returns c =
-    let came = c in
-    let a = came.args in
+    let a = c.args in
     let p = front a.dev a.cells.now in
-    λ id up. ap (port_answered p) (when_true a.dev.link _ _ up) ∙ ap (λ (g : Ring). port_answered p (received (with_ring g (front_root p)))) (sym (rw came.no_tally.ensures at came.arrive-arrival.ensures))
+    λ id up. ap (port_answered p) (when_true a.dev.link _ _ up) ∙ ap (λ (g : Ring). port_answered p (received (with_ring g (front_root p)))) (sym (rw c.no_tally.ensures at c.arrive.ensures))

@@ -1,6 +1,5 @@
 -- `execute::requests::run_write` meets its contract.
 use native.Mathlib.Omega.{arith}
-use borrow.Author.Rules.{rules}
 use mathlib.Core.Path.{ap, sym, ◌∙◌}
 use Rattle.frs_queue.specs.Queue.{no_tally}
 use Rattle.readiness.specs.MadeReady.{made_by}
@@ -15,7 +14,7 @@ use Rattle.execute.proofs.Resting.{told}
 use Rattle.execute.proofs.requests.run_write.Goals as goal
 
 pub write_ready-after-requires : goal.write_ready-after-requires
-write_ready-after-requires c = let i = (c.route_of-route.ensures.slot_lt_slots (sym c.is_access.ensures ∙ c.if-is_access.true)) in record { table_value = search rules; slot_in_bounds = (omega arith, omega arith, i.1) }
+write_ready-after-requires c = let i = (c.route_of-route.ensures.slot_lt_slots (sym c.is_access.ensures ∙ c.if-is_access.true)) in record { slot_in_bounds = (omega arith, omega arith, i.1) }
 
 pub returns-then-is_access : goal.returns-then-is_access
 unfolding slot_run slot_effect write_effect

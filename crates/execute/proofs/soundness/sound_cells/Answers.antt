@@ -19,13 +19,13 @@ pub loop-k-init : goal.loop-k-init
 loop-k-init c = (omega arith, every_none _)
 
 pub loop-k-preserved : goal.loop-k-preserved
-loop-k-preserved c = (omega arith, every_more _ _ c.loop-k.invariant.1 (ap sound_cell (sym c.cell_at.ensures) ∙ sym c.sound_cell.ensures ∙ c.if-sound_cell.true))
+loop-k-preserved c = (omega arith, every_more _ _ c.loop-k.invariant.1 (ap sound_cell (sym c.cell_at.ensures) ∙ sym c.sound_cell.ensures ∙ c.if-not-sound_cell.false))
 
-pub returns-else-sound_cell : goal.returns-else-sound_cell
-returns-else-sound_cell c =
+pub returns-then-not-sound_cell : goal.returns-then-not-sound_cell
+returns-then-not-sound_cell c =
     let l = c in
     let a = l.args in
-    sym (every_not a.depth (cell_sound a.cells.now a.start) l.loop-k.k (omega arith) (ap sound_cell (sym c.cell_at.ensures) ∙ sym c.sound_cell.ensures ∙ c.if-sound_cell.false))
+    sym (every_not a.depth (cell_sound a.cells.now a.start) l.loop-k.k (omega arith) (ap sound_cell (sym c.cell_at.ensures) ∙ sym c.sound_cell.ensures ∙ c.if-not-sound_cell.true))
 
 pub returns : goal.returns
 returns c =

@@ -1,7 +1,7 @@
 -- `execute::soundness::sound_cells` meets its contract.
 use mathlib.Core.Path.{◌≡◌}
 use mathlib.Core.Bool.{true}
-use Prim.Native.Nat.{◌≤◌, ◌-◌}
+use Prim.Native.Nat.{◌≤◌}
 use lib.ListN.{length, get_or}
 use Rattle.bits.specs.Every.{every}
 use Rattle.frs_queue.specs.Queue.{place_of}
@@ -10,6 +10,3 @@ use Rattle.execute.proofs.soundness.sound_cells.Given as goal
 
 abbrev pub invariant-loop-k : goal.invariant-loop-k
 invariant-loop-k l = (l.k ≤ l.depth) × (every l.k (λ k. sound_cell (get_or l.cells (place_of (length l.cells) l.start k) 0)) ≡ true)
-
-abbrev pub decreases-loop-k : goal.decreases-loop-k
-decreases-loop-k l = l.depth - l.k

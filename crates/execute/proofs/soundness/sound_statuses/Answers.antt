@@ -14,15 +14,15 @@ pub loop-i-init : goal.loop-i-init
 loop-i-init c = (omega arith, every_none _)
 
 pub loop-i-preserved : goal.loop-i-preserved
-loop-i-preserved c = (omega arith, every_more _ _ c.loop-i.invariant.1 (ap (sound_status c.args.dev) (sym c.status_at-status.ensures) ∙ sym c.sound_status.ensures ∙ c.if-sound_status.true))
+loop-i-preserved c = (omega arith, every_more _ _ c.loop-i.invariant.1 (ap (sound_status c.args.dev) (sym c.status_at.ensures) ∙ sym c.sound_status.ensures ∙ c.if-not-sound_status.false))
 
-pub returns-else-sound_status : goal.returns-else-sound_status
-returns-else-sound_status c =
+pub returns-then-not-sound_status : goal.returns-then-not-sound_status
+returns-then-not-sound_status c =
     let l = c in
     let a = l.args in
     let s = statuses_in a.phases.now in
     let p : ℕ → Bool = λ j. sound_status a.dev (status_at s j) in
-    sym (every_not a.slots p l.loop-i.i (omega arith) (ap (sound_status c.args.dev) (sym c.status_at-status.ensures) ∙ sym c.sound_status.ensures ∙ c.if-sound_status.false))
+    sym (every_not a.slots p l.loop-i.i (omega arith) (ap (sound_status c.args.dev) (sym c.status_at.ensures) ∙ sym c.sound_status.ensures ∙ c.if-not-sound_status.true))
 
 pub returns : goal.returns
 returns c =

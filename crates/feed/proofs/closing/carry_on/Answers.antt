@@ -10,11 +10,11 @@ use Rattle.decode.specs.declared.Ending.{Ending}
 use Rattle.demand3.specs.Held.{carried_of}
 use Rattle.feed.proofs.closing.carry_on.Goals as goal
 
-pub carried_bytes-requires : goal.carried_bytes-requires
-carried_bytes-requires c =
+pub first_bytes-requires : goal.first_bytes-requires
+first_bytes-requires c =
     let s = c in
     let n : length s.args.port.carried ≡ 16 = search rules in
     let t = carried_of s.args.port ++ s.args.input.now in
     let e = ap (λ (x : Ending). x.count) c.ending-end.ensures in
     let f = end_few t in
-    (omega (arith, n, s.requires), omega (arith, e, f.0), omega (arith, e, f.1, length_joined s.args.port.carried s.args.input.now s.args.port.carried_len (omega (arith, n, s.requires))))
+    (omega arith, (omega (arith, n, s.requires), omega (arith, e, f.0), omega (arith, e, f.1, length_joined s.args.port.carried s.args.input.now s.args.port.carried_len (omega (arith, n, s.requires)))))

@@ -38,7 +38,7 @@ first_bytes-bytes-requires c =
       whole = s.requires.completes.1;
     } in
     let length_trace : (let a = c.args in length (carried_of a.port ++ a.input.now) ≡ a.port.carried_len + length a.input.now) = let a = c.args in omega (arith, length-append (carried_of a.port) a.input.now, (joins).long) in
-    (omega (arith, (relies).short, sixteen), few_first (joins), omega (arith, there_first (joins), length_trace))
+    (omega arith, (omega (arith, (relies).short, sixteen), few_first (joins), omega (arith, there_first (joins), length_trace)))
 
 pub overflow_sub-missing : goal.overflow_sub-missing
 overflow_sub-missing c =
@@ -76,7 +76,7 @@ run_input-first-requires c =
       some = s.requires.completes.0;
       whole = s.requires.completes.1;
     } in
-    let b = c in record { table_value = b.requires.table_value; not_refused = opened_accepted (joins) }
+    record { not_refused = opened_accepted (joins) }
 
 pub returns-then-input-missing : goal.returns-then-input-missing
 returns-then-input-missing c =
@@ -202,7 +202,7 @@ run_input-rest-requires c =
     let lent-between : (let x = c.run_input-first in held_in (opened x.result.port.dev) x.new.phases x.new.live x.new.cells ≡ between (joins)) = ap (λ (l : Left Held). held (opened l.held.port.dev) l.held.statuses l.held.live l.held.cells) (one) in
     let f = c in
     let a = f.args in
-    record { table_value = f.requires.table_value; not_refused = ap (refusal_or31 (bench a.setup a.defaults.now)) (lent-between) ∙ between_accepted (joins) }
+    record { not_refused = ap (refusal_or31 (bench a.setup a.defaults.now)) (lent-between) ∙ between_accepted (joins) }
 
 pub after_first-requires : goal.after_first-requires
 after_first-requires c =

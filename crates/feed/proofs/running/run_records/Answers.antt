@@ -13,7 +13,7 @@ run_input-requires c =
     let relies : Accepted c.args.setup c.args.defaults.now (lent) = accepted c.args.setup c.args.defaults.now (lent) c.requires.not_refused (search rules) (search rules) in
     let t = c in
     let s = t in
-    record { table_value = s.requires.table_value; not_refused = fresh_accepted s.args.setup s.args.defaults.now (lent) s.args.input.now s.args.answers.now s.requires.not_refused (relies) t.if-port-eq0.true }
+    record { not_refused = fresh_accepted s.args.setup s.args.defaults.now (lent) s.args.input.now s.args.answers.now s.requires.not_refused (relies) t.if-port-eq0.true }
 
 pub returns-then-port-eq0 : goal.returns-then-port-eq0
 returns-then-port-eq0 c =

@@ -27,7 +27,7 @@ run_entries-requires c =
     let relies : Accepted c.args.setup c.args.defaults.now (held_in c.args.port c.args.phases.now c.args.live.now c.args.cells.now) = accepted c.args.setup c.args.defaults.now _ c.requires.not_refused (search rules) (search rules) in
     let s = c in
     let a = s.args in
-    record { table_value = s.requires.table_value; not_refused = open_accepted a.setup a.defaults.now _ s.requires.not_refused (state_in a.port.dev a.phases.now a.live.now a.cells.now) refl refl refl (relies).good.kept.sound; between = s.requires.between }
+    record { not_refused = open_accepted a.setup a.defaults.now _ s.requires.not_refused (state_in a.port.dev a.phases.now a.live.now a.cells.now) refl refl refl (relies).good.kept.sound; between = s.requires.between }
 
 pub returns-then-len-eq0 : goal.returns-then-len-eq0
 returns-then-len-eq0 c =
@@ -64,4 +64,4 @@ returns-then-size-eq0 c =
 pub run_joined-requires : goal.run_joined-requires
 run_joined-requires c =
     let s = c in
-    record { table_value = s.requires.table_value; not_refused = s.requires.not_refused; between = s.requires.between; carried_len_nonzero = omega (arith, c.if-len-eq0); completes = (omega (arith, c.if-size-eq0), c.whole_size-size.ensures) }
+    record { not_refused = s.requires.not_refused; between = s.requires.between; carried_len_nonzero = omega (arith, c.if-len-eq0); completes = (omega (arith, c.if-size-eq0), c.whole_size-size.ensures) }

@@ -1,4 +1,6 @@
 -- `replay::running::run_joined` meets its contract: feed's Carried has the record that runs first, and Joining what comes of it and the rest.
+use Rattle.times.specs.declared.Nanos.{Nanos}
+use Rattle.std.specs.Prelude.{Option}
 use Prim.Native.Nat.{ℕ, ◌+◌, ◌-◌, ◌≤◌}
 use native.Mathlib.Omega.{arith}
 use mathlib.Core.Path.{◌≡◌, sym, ap, ◌∙◌, subst}
@@ -12,7 +14,6 @@ use Rattle.trace.specs.Bench.{Ran}
 use Rattle.trace.specs.Lent.{Left, refusal_or31}
 use Rattle.bits.proofs.Bytes.{bytes_of, bytes_take, bytes_append}
 use Rattle.readiness.specs.inner.Phases.{statuses_in, moments_in}
-use Rattle.readiness.specs.declared.Moment.{Moment}
 use Rattle.readiness.proofs.PhaseNumbers.{moments_length}
 use Rattle.records.specs.State.{State}
 use Rattle.execute.specs.inner.Lent.{state_in}
@@ -74,7 +75,7 @@ first_bytes-bytes-requires c =
     let there : (let a = c.args in a.size ≤ a.port.carried_len + length a.input.now) =
     let a = c.args in
     omega (arith, there_first (joins), length-append (carried_of a.port) a.input.now, (joins).long) in
-    let b = c in let s = c in (omega (arith, (relies).short, sixteen), few_first (joins), there)
+    let b = c in let s = c in (omega arith, (omega (arith, (relies).short, sixteen), few_first (joins), there))
 
 pub slice_bounds-run_input-end : goal.slice_bounds-run_input-end
 slice_bounds-run_input-end c =
@@ -131,7 +132,7 @@ run_input-first-requires c =
       some = s.requires.completes.0;
       whole = s.requires.completes.1;
     } in
-    record { table_value = c.requires.table_value; not_refused = opened_accepted (joins) }
+    record { not_refused = opened_accepted (joins) }
 
 pub slice_bounds-run_entries-count : goal.slice_bounds-run_entries-count
 slice_bounds-run_entries-count c =
@@ -299,7 +300,7 @@ run_entries-rest-requires c =
     let a = c.args in
     ap (λ (l : Left Held). refusal_or31 (bench a.setup a.defaults.now) (held (opened l.held.port.dev) l.held.statuses l.held.live l.held.cells)) (one)
     ∙ between_accepted (joins) in
-    let t = c in record { table_value = t.requires.table_value; not_refused = not_refused_lem; between = t.requires.between }
+    let t = c in record { not_refused = not_refused_lem; between = t.requires.between }
 
 pub after_record-requires : goal.after_record-requires
 after_record-requires c =
@@ -392,7 +393,7 @@ returns c =
     let after : State = let x = c.run_input-first in state_in x.result.port.dev x.new.phases x.new.live x.new.cells in
     let after_is : ◌≡◌ {A = Ran State} (record { state = after; answer = (given).answers }) (ran) = λ i. record { state = state_of (one i).held; answer = (one i).answers } in
     let moments_then : List ℕ = moments_in c.run_input-first.new.phases in
-    let noted_is : (kept : List Moment) → let a = c.args in ◌≡◌ {A = Ran Noted} (record { state = noted_with kept (after) (moments_then); answer = (given).answers }) ((noting_device a.setup a.defaults.now).run (noted_in kept a.port.dev a.phases.now a.live.now a.cells.now) (first (joins))) = λ kept.
+    let noted_is : (kept : List (Option Nanos)) → let a = c.args in ◌≡◌ {A = Ran Noted} (record { state = noted_with kept (after) (moments_then); answer = (given).answers }) ((noting_device a.setup a.defaults.now).run (noted_in kept a.port.dev a.phases.now a.live.now a.cells.now) (first (joins))) = λ kept.
     let s = c in
     let a = s.args in
     let j = joins in
@@ -406,11 +407,11 @@ returns c =
     let slice : List ℕ = (given).answers ++ drop 8 c.args.answers.now in
     let front_is : take 8 (slice) ≡ (given).answers = take_at (given).answers (drop 8 c.args.answers.now) 8 (eight) in
     let back_is : drop 8 (slice) ≡ drop 8 c.args.answers.now = drop_at (given).answers (drop 8 c.args.answers.now) 8 (eight) in
-    let rest : List Moment → Left HeldNoting = λ kept.
+    let rest : List (Option Nanos) → Left HeldNoting = λ kept.
     let x = c.run_entries-rest in
     left_noting kept x.result x.new.phases x.new.live x.new.cells x.new.answers in
     let answers_then : List ℕ = c.run_entries-rest.new.answers in
-    let rest_is : (kept : List Moment) → let t = c in let a = t.args in rest kept ≡ comes_to a.setup a.defaults.now (noted_with kept (after) (moments_then)) [] (progress_in a.begun) (drop (a.size - length (carried_of a.port)) a.input.now) (drop 8 (slice)) = λ kept.
+    let rest_is : (kept : List (Option Nanos)) → let t = c in let a = t.args in rest kept ≡ comes_to a.setup a.defaults.now (noted_with kept (after) (moments_then)) [] (progress_in a.begun) (drop (a.size - length (carried_of a.port)) a.input.now) (drop 8 (slice)) = λ kept.
     let t = c in
     let a = t.args in
     let m = a.size - a.port.carried_len in

@@ -1,67 +1,55 @@
 -- `replay::stepping::kind_step` meets its contract.
-use Prim.Native.Nat.{ℕ, ◌<◌}
-use mathlib.Core.Path.{◌≡◌, ap, sym, ◌∙◌, subst}
+use Prim.Native.Nat.{ℕ, suc, ◌<◌}
+use mathlib.Core.Path.{◌≡◌, ap, sym, ◌∙◌}
 use mathlib.Core.List.{List}
 use native.Mathlib.Omega.{arith}
-use lib.ListN.{length, get_or, drop, length-drop}
-use borrow.Author.Rules.{rules}
+use lib.ListN.{length, drop, length-drop}
+use Rattle.std.specs.Prelude.{Some, None, Err, slice_get}
+use Rattle.times.specs.declared.Nanos.{Nanos}
 use Rattle.decode.proofs.Fields.{kind_at_lem}
 use Rattle.capture.specs.Advances.{due}
-use Rattle.capture.specs.Replay.{Progress, ended_with}
 use Rattle.capture.specs.Lent.{progress_in}
-use Rattle.capture.proofs.Advancing.{due_few}
-use Rattle.capture.proofs.Kept.{read_kept}
-use Rattle.replay_state.specs.declared.Due.{Due}
-use Rattle.replay_state.specs.inner.Moves.{Tidy, checked_at}
-use Rattle.replay.specs.inner.Steps.{halts}
-use Rattle.replay.proofs.NextStep.{tidy_kept}
-use Rattle.replay.proofs.ByStep.{none_due, no_advance, not_in_order, in_order}
+use Rattle.replay_state.specs.inner.Moves.{advances_in, checked_at}
+use Rattle.replay_state.proofs.Dues.{dues_held}
+use Rattle.replay.specs.inner.Steps.{step_at_advances}
+use Rattle.replay.proofs.ByStep.{some_left, none_left, no_advance, checked_so}
 use Rattle.replay.proofs.stepping.kind_step.Goals as goal
 
-pub returns-then-number-ne0 : goal.returns-then-number-ne0
-returns-then-number-ne0 c =
-    let rest : List ℕ = drop c.args.at c.args.input.now in
-    let some_left : 0 < length (rest) = omega (arith, c.requires.stamp_len_value.1, length-drop c.args.at c.args.input.now) in
-    let number_is : (let s = c in c.checked-number.result ≡ checked_at (progress_in s.args.r) (get_or (rest) 0 0)) =
+pub returns-in-Some : goal.returns-in-Some
+returns-in-Some c =
     let a = c.args in
-    c.checked-number.ensures ∙ ap (checked_at (progress_in a.r)) (sym (kind_at_lem a.input.now a.at)) in
-    let s = c in
-    let a = s.args in
-    let n = c.checked-number.result in
-    c.halt.ensures
-    ∙ ap (λ (q : Progress). halts n q a.at) (ap progress_in c.ended_with.ensures ∙ read_kept (ended_with n (progress_in a.r)))
-    ∙ not_in_order (progress_in a.r) a.space a.at (rest) n (some_left) (number_is) c.if-number-ne0.true
+    let input : List ℕ = a.input.now in
+    let rest : List ℕ = drop a.at input in
+    let n = c.in-Some.number in
+    checked_so (progress_in a.r) a.space a.at rest (Some n) (omega (arith, c.requires.stamp_len_value.1, length-drop a.at input))
+    (sym c.in-Some.is ∙ c.checked.ensures ∙ ap (checked_at (progress_in a.r)) (sym (kind_at_lem input a.at)))
+    _ (λ i. Err (record { number = n; replay = c.ended_with.ensures i; at = a.at }))
 
-pub returns-then-r-due : goal.returns-then-r-due
-returns-then-r-due c =
-    let rest : List ℕ = drop c.args.at c.args.input.now in
-    let some_left : 0 < length (rest) = omega (arith, c.requires.stamp_len_value.1, length-drop c.args.at c.args.input.now) in
-    let number_is : (let s = c in c.checked-number.result ≡ checked_at (progress_in s.args.r) (get_or (rest) 0 0)) =
+pub returns-in-Some-after : goal.returns-in-Some-after
+returns-in-Some-after c =
     let a = c.args in
-    c.checked-number.ensures ∙ ap (checked_at (progress_in a.r)) (sym (kind_at_lem a.input.now a.at)) in
-    let s = c in
-    let a = s.args in
-    in_order (progress_in a.r) a.space a.at (rest) (some_left)
-    (sym (number_is) ∙ c.if-number-ne0.false)
-    c.advance_step.result (c.advance_step.ensures (rest))
-
-pub returns : goal.returns
-returns c =
-    let rest : List ℕ = drop c.args.at c.args.input.now in
-    let some_left : 0 < length (rest) = omega (arith, c.requires.stamp_len_value.1, length-drop c.args.at c.args.input.now) in
-    let number_is : (let s = c in c.checked-number.result ≡ checked_at (progress_in s.args.r) (get_or (rest) 0 0)) =
-    let a = c.args in
-    c.checked-number.ensures ∙ ap (checked_at (progress_in a.r)) (sym (kind_at_lem a.input.now a.at)) in
-    let s = c in
-    let a = s.args in
+    let input : List ℕ = a.input.now in
+    let rest : List ℕ = drop a.at input in
     let p = progress_in a.r in
-    let d = c.due_of-due.ensures in
-    let none = none_due (due p.earlier p.stamp) a.r.answered (due_few p.earlier p.stamp) (omega (arith, ap (λ (x : Due). x.count) d, c.if-r-due.false)) in
-    in_order p a.space a.at (rest) (some_left)
-    (sym (number_is) ∙ c.if-number-ne0.false)
-    c.record_step.result (no_advance p a.space a.at _ none (rest) c.record_step.result c.record_step.ensures)
+    let dues : List Nanos = due p.earlier p.stamp in
+    let held : advances_in c.due_of.result ≡ dues = ap advances_in c.due_of.ensures ∙ dues_held p.earlier p.stamp in
+    let next_is = some_left dues a.r.answered c.in-Some-after.by
+    (ap (λ (ts : List Nanos). slice_get ts a.r.answered) (sym held) ∙ sym c.after.ensures ∙ c.in-Some-after.is) in
+    checked_so p a.space a.at rest None (omega (arith, c.requires.stamp_len_value.1, length-drop a.at input))
+    (sym c.in_default.is ∙ c.checked.ensures ∙ ap (checked_at p) (sym (kind_at_lem input a.at)))
+    c.advance_step.result
+    (c.advance_step.ensures (drop (suc a.r.answered) dues) rest ∙ ap (λ (ts : List Nanos). step_at_advances ts p a.space a.at rest) (sym next_is))
 
-pub halt-requires : goal.halt-requires
-halt-requires c =
-    let r = c.args.r in
-    subst Tidy (sym c.ended_with.ensures) (tidy_kept (ended_with c.checked-number.result (progress_in r)))
+pub returns-in-None : goal.returns-in-None
+returns-in-None c =
+    let a = c.args in
+    let input : List ℕ = a.input.now in
+    let rest : List ℕ = drop a.at input in
+    let p = progress_in a.r in
+    let dues : List Nanos = due p.earlier p.stamp in
+    let held : advances_in c.due_of.result ≡ dues = ap advances_in c.due_of.ensures ∙ dues_held p.earlier p.stamp in
+    let none_is = none_left dues a.r.answered
+    (ap (λ (ts : List Nanos). slice_get ts a.r.answered) (sym held) ∙ sym c.after.ensures ∙ c.in-None.is) in
+    checked_so p a.space a.at rest None (omega (arith, c.requires.stamp_len_value.1, length-drop a.at input))
+    (sym c.in_default.is ∙ c.checked.ensures ∙ ap (checked_at p) (sym (kind_at_lem input a.at)))
+    c.record_step.result (no_advance p a.space a.at (drop a.r.answered dues) none_is rest c.record_step.result c.record_step.ensures)

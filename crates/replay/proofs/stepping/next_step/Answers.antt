@@ -8,7 +8,7 @@ use borrow.Author.Rules.{rules}
 use Rattle.capture.specs.Lent.{progress_in}
 use Rattle.replay_state.specs.inner.Moves.{Tidy}
 use Rattle.replay.specs.inner.Steps.{step_after_stamp, step_of}
-use Rattle.replay.proofs.ByStep.{at_the_end, no_shorter, still_in, still_tidy, stamped, step_after}
+use Rattle.replay.proofs.ByStep.{halted, at_the_end, no_shorter, still_in, still_tidy, stamped, step_after}
 use Rattle.replay.proofs.stepping.next_step.Goals as goal
 
 pub returns-then-next-input : goal.returns-then-next-input
@@ -19,7 +19,7 @@ returns-then-next-input c =
     let after : step_after_stamp (progress_in c.with_stamp-t.result) c.args.space place (drop place input) ≡ step_of (progress_in c.args.r) c.args.space c.args.at input = step_after c.args.r input c.args.at (four) c.requires.stamp_len_bound.0 c.requires.stamp_len_bound.1 _ c.with_stamp-t.ensures c.args.space in
     let w = c in
     let e = c.if-next-input.true in
-    c.halt.ensures
+    halted 0 w.with_stamp-t.result place (still_tidy w.args.r input w.args.at four w.requires.stamp_len_bound.0 w.requires.stamp_len_bound.1 _ w.with_stamp-t.ensures)
     ∙ at_the_end (progress_in w.with_stamp-t.result) w.args.space (place) (drop (place) (input)) (drop_of_length-le (input) {i = place} (omega (arith, e)))
     ∙ after
 
@@ -45,13 +45,6 @@ overflow_add-next c =
     let place : ℕ = c.args.at + (c.with_stamp-t.result.stamp_len - c.args.r.stamp_len) in
     let within : place ≤ length input = still_in c.args.r input c.args.at (four) c.requires.stamp_len_bound.0 c.requires.stamp_len_bound.1 _ c.with_stamp-t.ensures in
     let m : length (input) < 9223372036854775808 = search rules in record { fits = omega (arith, m, within) }
-
-pub halt-requires : goal.halt-requires
-halt-requires c =
-    let four : length c.args.r.stamp ≡ 4 = search rules in
-    let input : List ℕ = c.args.input.now in
-    let tidied : Tidy c.with_stamp-t.result = still_tidy c.args.r input c.args.at (four) c.requires.stamp_len_bound.0 c.requires.stamp_len_bound.1 _ c.with_stamp-t.ensures in
-    tidied
 
 pub kind_step-requires : goal.kind_step-requires
 kind_step-requires c =

@@ -1,17 +1,19 @@
 -- `replay::stepping::record_step` meets its contract.
 use Prim.Native.Nat.{ℕ, ◌+◌, ◌-◌, ◌<◌}
 use mathlib.Core.Path.{◌≡◌, ap, sym, ◌∙◌}
-use mathlib.Core.Bool.{true}
 use mathlib.Core.List.{List}
 use native.Mathlib.Omega.{arith}
 use lib.ListN.{length, take, drop, length-drop}
 use lib.Seq.{take-length}
 use borrow.Author.Rules.{rules}
+use Rattle.std.specs.Prelude.{Result, Ok}
 use Rattle.trace.specs.Format.{next}
 use Rattle.trace.specs.inner.Gathered.{whole_size}
 use Rattle.capture.specs.Lent.{progress_in}
+use Rattle.replay.specs.declared.Run.TheVariants.{Record}
 use Rattle.replay.specs.declared.Step.{Step}
-use Rattle.replay.proofs.ByStep.{size_there, no_record, a_record}
+use Rattle.replay.specs.declared.End.{End}
+use Rattle.replay.proofs.ByStep.{size_there, halted, no_record, a_record}
 use Rattle.replay.proofs.stepping.record_step.Goals as goal
 
 pub returns-then-size-eq0 : goal.returns-then-size-eq0
@@ -23,7 +25,7 @@ returns-then-size-eq0 c =
     ∙ ap (λ (l : List ℕ). whole_size a.space (next l)) (ap (λ (n : ℕ). take n (rest)) (sym (length-drop a.at a.input.now)) ∙ take-length (rest)) in
     let w = c in
     let s = w in
-    c.halt.ensures ∙ no_record (progress_in s.args.r) s.args.space s.args.at (rest) w.whole_size-size.result (size_is) c.if-size-eq0.true
+    halted 0 s.args.r s.args.at s.requires.tidy ∙ no_record (progress_in s.args.r) s.args.space s.args.at (rest) w.whole_size-size.result (size_is) c.if-size-eq0.true
 
 pub overflow_add-result : goal.overflow_add-result
 overflow_add-result c =
@@ -48,6 +50,6 @@ returns c =
     let w = c in
     let s = w in
     let size = w.whole_size-size.result in
-    ◌∙◌ {A = Step}
-    (λ i. record { runs = true; number = 0; by = c.nanos_of.ensures i; size = size; replay = c.begin_record.ensures i; at = s.args.at + size })
+    ◌∙◌ {A = Result Step End}
+    (λ i. Ok (record { run = Record size; replay = c.begin_record.ensures i; at = s.args.at + size }))
     (a_record (progress_in s.args.r) s.args.space s.args.at (rest) size (size_is) c.if-size-eq0.false)

@@ -1,48 +1,37 @@
 -- `replay::stretching::put_step` meets its contract.
-use Prim.Native.Nat.{ℕ, ◌-◌}
+use Prim.Native.Nat.{ℕ, ◌-◌, ◌≤◌}
 use native.Mathlib.Omega.{arith}
-use mathlib.Core.Path.{sym, ap, ◌∙◌}
+use mathlib.Core.Path.{sym, ap, ◌∙◌, subst}
 use lib.ListN.{take, drop, length-drop}
 use native.Mathlib.Nat.{zero-add}
 use lib.Seq.{paste, take-paste}
-use lib.Dec.{eqb}
 use borrow.Author.Rules.{rules}
-use borrow.Author.Tests.{eq-eqb, ne_eqb}
-use Rattle.trace.proofs.Tests.{if_true, if_false}
 use Rattle.capture.specs.Advances.{advance}
+use Rattle.replay.specs.declared.Run.{Run}
+use Rattle.replay.specs.inner.Steps.{run_bytes}
+use Rattle.replay.specs.inner.Stretches.{RunFits}
 use Rattle.replay.proofs.stretching.put_step.Goals as goal
 
-pub put_advance-requires : goal.put_advance-requires
-put_advance-requires c = omega (arith, c.requires.3)
-
--- an advance
-pub returns-then-step-eq0 : goal.returns-then-step-eq0
+pub returns-in-Advance : goal.returns-in-Advance
 unfolding advance
-returns-then-step-eq0 c =
-    let s = c in
-    let step = s.args.step in
-    let x = c.put_advance in (
+returns-in-Advance c =
+    let a = c.args in (
       omega arith,
-      ap (take 5) x.ensures ∙ take-paste s.args.trace.now 0 (advance step.by) 5 (omega arith) (omega arith) ∙ sym (if_true (eqb step.size 0) _ _ (eq-eqb step.size 0 c.if-step-eq0.true)),
+      ap (take 5) c.put_advance.ensures
+          ∙ take-paste a.trace.now 0 (advance c.in-Advance.by) 5 (omega arith) (omega arith)
+          ∙ ap (λ (x : Run). run_bytes x a.step.at a.input.now) (sym c.in-Advance.is),
     )
 
-pub overflow_sub-step : goal.overflow_sub-step
-overflow_sub-step c = c.requires.1
-
-pub put_bytes-requires : goal.put_bytes-requires
-put_bytes-requires c = let p = c.requires in (omega (arith, p.0, p.3), omega (arith, p.1, p.2))
-
--- a record
-pub returns : goal.returns
-returns c =
-    let s = c in
-    let step = s.args.step in
-    let input = s.args.input.now in
-    let x = c.put_bytes in
-    let from = step.at - step.size in (
-      omega (arith, s.requires.0),
-      ap (take step.size) x.ensures
-          ∙ ap (λ (n : ℕ). take n (paste s.args.trace.now 0 (drop from input) step.size)) (sym (zero-add step.size))
-          ∙ take-paste s.args.trace.now 0 (drop from input) step.size (omega arith) (omega (arith, length-drop from input, s.requires.1, s.requires.2))
-          ∙ sym (if_false (eqb step.size 0) _ _ (ne_eqb step.size 0 c.if-step-eq0.false)),
+pub returns-in-Record : goal.returns-in-Record
+returns-in-Record c =
+    let a = c.args in
+    let input = a.input.now in
+    let size = c.in-Record.size in
+    let from = a.step.at - size in
+    let fits : (size ≤ 17) × (size ≤ a.step.at) = subst (λ (x : Run). RunFits x a.step.at) c.in-Record.is c.requires.0 in (
+      omega (arith, fits.0, c.requires.2),
+      ap (take size) c.put_bytes.ensures
+          ∙ ap (λ (n : ℕ). take n (paste a.trace.now 0 (drop from input) size)) (sym (zero-add size))
+          ∙ take-paste a.trace.now 0 (drop from input) size (omega arith) (omega (arith, length-drop from input, fits.1, c.requires.1))
+          ∙ ap (λ (x : Run). run_bytes x a.step.at input) (sym c.in-Record.is),
     )

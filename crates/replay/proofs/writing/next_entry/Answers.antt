@@ -6,9 +6,10 @@ use mathlib.Core.Bool.{false}
 use lib.ListN.{length, take, drop, length-drop}
 use lib.Seq.{length-take-le}
 use borrow.Author.Rules.{rules}
+use Rattle.std.specs.Prelude.{Some}
 use Rattle.times.specs.declared.Nanos.{Nanos}
 use Rattle.ticks.specs.Ticks.{difference, went_back, in_nanos}
-use Rattle.capture.specs.Advances.{was, stamp_in, advances}
+use Rattle.capture.specs.Advances.{stamp_in, advances}
 use Rattle.replay_state.specs.inner.Moves.{due_of}
 use Rattle.replay_state.proofs.Dues.{later_went, gone_on}
 use Rattle.replay.proofs.writing.next_entry.Goals as goal
@@ -25,21 +26,16 @@ returns c =
     let is : d.result ≡ difference a.before (stamp_in bytes) = d.ensures ∙ ap (difference a.before) at_stamp.ensures in
     let forward : went_back (difference a.before (stamp_in bytes)) ≡ false =
     ap went_back (sym is) ∙ sym c.went_back.ensures ∙ c.if-went_back.false in
-    λ _. record {
+    record {
       there = there;
       stamp = at_stamp.ensures;
-      forward = later_went (was a.before) a.before (stamp_in bytes) refl ∙ forward;
-      size = c.size_in_entry.ensures;
+      forward = later_went (Some a.before) a.before (stamp_in bytes) refl ∙ forward;
+      size = c.size_in_entry-size.ensures;
+      some = omega arith;
       due =
-          c.advances_of.ensures
+          c.advances_of-due.ensures
           ∙ ap (λ (t : Nanos). due_of (advances t)) (c.in_nanos.ensures ∙ ap in_nanos is)
-          ∙ ap due_of (sym (gone_on (was a.before) a.before bytes four refl forward));
+          ∙ ap due_of (sym (gone_on (Some a.before) a.before bytes four refl forward));
       answers = c.if-space-lt-ANSWERS.false;
       bytes = c.if-room-lt-BYTES.false;
     }
-
-pub returns-then-input-at-lt-WHOLE : goal.returns-then-input-at-lt-WHOLE
-returns-then-input-at-lt-WHOLE c = λ h. absurd (omega (arith, h, c.no_entry.ensures))
-
-pub returns-then-went_back : goal.returns-then-went_back
-returns-then-went_back c = λ h. absurd (omega (arith, h, c.no_entry-then-went_back.ensures))

@@ -1,21 +1,9 @@
 -- `replay::writing::write_entries` meets its contract: OneMore has an entry, Pasting its bytes.
-use Prim.Native.Nat.{ℕ, ◌+◌, ◌-◌, ◌*◌, ◌≤◌, ◌<◌}
-use native.Mathlib.Omega.{arith}
-use mathlib.Core.Path.{◌≡◌, refl, sym, ap, ◌∙◌, subst}
-use mathlib.Core.List.{List, [], ◌++◌}
-use lib.ListN.{length, take, drop, length-drop}
-use lib.Seq.{length-take-le, take-length, paste}
-use borrow.Author.Rules.{rules}
-use Rattle.bits.proofs.Bytes.{bytes_of}
-use Rattle.times.specs.declared.Nanos.{Nanos}
-use Rattle.trace.specs.Format.{pad}
-use Rattle.trace.proofs.Lists.{length-pad}
-use Rattle.capture.specs.Advances.{advance_bytes}
+use Prim.Native.Nat.{◌-◌, ◌≤◌}
+use mathlib.Core.Path.{◌≡◌}
+use lib.ListN.{length, take}
 use Rattle.capture.specs.Replay.{after_entry}
-use Rattle.replay.specs.declared.Entry.{Entry}
-use Rattle.replay.specs.inner.Stretches.{advances_in, StandsNext, WrittenOut}
-use Rattle.replay.proofs.OneMore.{none_yet, ts, bytes, few, short, held, count, one_more}
-use Rattle.replay.proofs.Pasting.{front-first, entry_put}
+use Rattle.replay.specs.inner.Stretches.{WrittenOut}
 use Rattle.replay.proofs.writing.write_entries.Given as goal
 
 abbrev pub invariant-loop-e : goal.invariant-loop-e

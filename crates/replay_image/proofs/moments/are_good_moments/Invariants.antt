@@ -1,5 +1,5 @@
 -- `replay_image::moments::are_good_moments` meets its contract: the first i slots say yes or no.
-use Prim.Native.Nat.{◌*◌, ◌-◌, ◌≤◌}
+use Prim.Native.Nat.{◌*◌}
 use mathlib.Core.Path.{◌≡◌}
 use mathlib.Core.Bool.{true}
 use Rattle.bits.specs.Every.{every}
@@ -7,7 +7,4 @@ use Rattle.state_layout.specs.Reading.{yes_or_no}
 use Rattle.replay_image.proofs.moments.are_good_moments.Given as goal
 
 abbrev pub invariant-loop-i : goal.invariant-loop-i
-invariant-loop-i l = (l.i ≤ 32) × (every l.i (λ k. yes_or_no (9 * k) l.bytes) ≡ true)
-
-abbrev pub decreases-loop-i : goal.decreases-loop-i
-decreases-loop-i l = 32 - l.i
+invariant-loop-i l = every l.i (λ k. yes_or_no (9 * k) l.bytes) ≡ true

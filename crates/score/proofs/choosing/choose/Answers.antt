@@ -19,16 +19,15 @@ unfolding chosen
 next v s k i p = let e : suc i ≡ i + 1 = omega arith in ap (λ (n : ℕ). chosen v s k n p) e
 
 pub loop-i-init : goal.loop-i-init
-loop-i-init c = (omega arith, refl, none c.args.values.now c.args.of.now c.args.slot (record { count = 0; list = c.args.list.now }))
+loop-i-init c = (refl, none c.args.values.now c.args.of.now c.args.slot (record { count = 0; list = c.args.list.now }))
 
 pub loop-i-preserved : goal.loop-i-preserved
 loop-i-preserved c =
     let a = c.args in
     let l = c.loop-i in
     let first : Picked = record { count = 0; list = a.list.now } in (
-      omega arith,
       search rules,
-      c.pick_if-count.ensures ∙ (λ i. pick (c.is_of.ensures i) (told (get_or a.values.now l.i (pos 0)) c.d-1.given i) (l.invariant.2 i))
+      c.pick_if-count.ensures ∙ (λ i. pick (c.is_of.ensures i) (told (get_or a.values.now l.i (pos 0)) c.d-1.given i) (l.invariant.1 i))
           ∙ next a.values.now a.of.now a.slot l.i first,
     )
 
@@ -37,4 +36,4 @@ returns c =
     let a = c.args in
     let l = c.loop-i in
     let z : l.i ≡ length a.values.now = omega arith in
-    l.invariant.2 ∙ ap (λ (n : ℕ). chosen a.values.now a.of.now a.slot n (record { count = 0; list = a.list.now })) z
+    l.invariant.1 ∙ ap (λ (n : ℕ). chosen a.values.now a.of.now a.slot n (record { count = 0; list = a.list.now })) z

@@ -1,13 +1,9 @@
 -- `score::choosing::choose` meets its contract.
 use mathlib.Core.Path.{◌≡◌}
-use Prim.Native.Nat.{◌-◌, ◌≤◌}
 use lib.ListN.{length}
 use Rattle.score.specs.Scores.{Picked, chosen}
 use Rattle.score.proofs.choosing.choose.Given as goal
 
 abbrev pub invariant-loop-i : goal.invariant-loop-i
-invariant-loop-i l = (l.i ≤ length l.values) × (length l.list ≡ length l.initial.list)
+invariant-loop-i l = (length l.list ≡ length l.initial.list)
     × (◌≡◌ {A = Picked} (record { count = l.count; list = l.list }) (chosen l.values l.of l.slot l.i (record { count = 0; list = l.initial.list })))
-
-abbrev pub decreases-loop-i : goal.decreases-loop-i
-decreases-loop-i l = length l.values - l.i

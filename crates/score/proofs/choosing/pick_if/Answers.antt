@@ -23,7 +23,7 @@ returns-then-applies c =
     ∙ ap (λ (z : ℤ). record { count = next_count a.count; list = set a.list.now a.count z }) (read a.d c.ranges.d)
     ∙ sym (picks a.applies a.d (record { count = a.count; list = a.list.now }) c.if-applies.true)
 
-pub returns : goal.returns
-returns c =
+pub returns-else-applies : goal.returns-else-applies
+returns-else-applies c =
     let a = c.args in
     sym (passes a.applies a.d (record { count = a.count; list = a.list.now }) c.if-applies.false)

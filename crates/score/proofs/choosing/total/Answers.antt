@@ -26,4 +26,4 @@ pub returns-then-c : goal.returns-then-c
 returns-then-c c = let a = c.args in c.no_totals.ensures ∙ sym (refuses a.c.outside a.c.count a.values.now c.if-c.true)
 
 pub returns : goal.returns
-returns c = let a = c.args in c.totals.ensures ∙ ap (λ (n : ℕ). report (take n a.values.now)) (less_none _ ∙ c.at_most-n.ensures.value) ∙ sym (gives a.c.outside a.c.count a.values.now c.if-c.false)
+returns c = let a = c.args in c.totals.ensures ∙ ap (λ (n : ℕ). report (take n a.values.now)) (less_none _ ∙ c.min-n.ensures) ∙ sym (gives a.c.outside a.c.count a.values.now c.if-c.false)

@@ -19,17 +19,16 @@ module _ (slots : ℕ) (bench seen : Moments) where
 pub loop-i-init : goal.loop-i-init
 loop-i-init c =
     let a = c.args in
-    (omega arith, refl, refl, none a.slots a.bench a.seen (lists a.before a.values.now a.of.now))
+    (refl, refl, none a.slots a.bench a.seen (lists a.before a.values.now a.of.now))
 
 pub loop-i-preserved : goal.loop-i-preserved
 loop-i-preserved c =
     let a = c.args in
     let l = c.loop-i in
     let first = lists a.before a.values.now a.of.now in (
-      omega arith,
       search rules,
       search rules,
-      c.with_difference-c.ensures ∙ (λ i. with_difference l.i (c.difference_at-d.ensures i) (l.invariant.3 i))
+      c.with_difference-c.ensures ∙ (λ i. with_difference l.i (c.difference_at-d.ensures i) (l.invariant.2 i))
           ∙ next a.slots a.bench a.seen l.i first,
     )
 
@@ -38,4 +37,4 @@ returns c =
     let a = c.args in
     let l = c.loop-i in
     let z : l.i ≡ 32 = omega arith in
-    l.invariant.3 ∙ ap (λ (n : ℕ). collected a.slots a.bench a.seen n (lists a.before a.values.now a.of.now)) z
+    l.invariant.2 ∙ ap (λ (n : ℕ). collected a.slots a.bench a.seen n (lists a.before a.values.now a.of.now)) z

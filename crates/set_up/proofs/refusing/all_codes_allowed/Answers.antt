@@ -9,7 +9,7 @@ use Rattle.demand3.specs.Refusals.{codes_allowed, all_codes_allowed}
 use Rattle.set_up.proofs.refusing.all_codes_allowed.Goals as goal
 
 pub loop-i-init : goal.loop-i-init
-loop-i-init c = (omega arith, omega arith, every_none _)
+loop-i-init c = every_none _
 
 pub returns-then-not-codes_allowed : goal.returns-then-not-codes_allowed
 unfolding all_codes_allowed
@@ -21,7 +21,7 @@ returns-then-not-codes_allowed c =
 pub loop-i-preserved : goal.loop-i-preserved
 loop-i-preserved c =
     let l = c in
-    (omega arith, omega arith, every_more l.loop-i.i _ l.loop-i.invariant.2 (sym c.codes_allowed.ensures ∙ c.if-not-codes_allowed.false))
+    every_more l.loop-i.i _ l.loop-i.invariant (sym c.codes_allowed.ensures ∙ c.if-not-codes_allowed.false)
 
 pub returns : goal.returns
 unfolding all_codes_allowed
@@ -29,4 +29,4 @@ returns c =
     let l = c.loop-i in
     let s = c.args.setup in
     let e : l.i ≡ s.slots = omega arith in
-    sym (ap (λ (n : ℕ). every n (λ k. codes_allowed (entry_of s k))) (sym e) ∙ l.invariant.2)
+    sym (ap (λ (n : ℕ). every n (λ k. codes_allowed (entry_of s k))) (sym e) ∙ l.invariant)

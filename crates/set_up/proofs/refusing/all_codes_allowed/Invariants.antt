@@ -1,5 +1,4 @@
 -- `set_up::refusing::all_codes_allowed` meets its contract: the codes of the first i slots are allowed.
-use Prim.Native.Nat.{◌≤◌, ◌-◌}
 use mathlib.Core.Path.{◌≡◌}
 use mathlib.Core.Bool.{true}
 use Rattle.readiness.specs.Status.{entry_of}
@@ -8,7 +7,4 @@ use Rattle.demand3.specs.Refusals.{codes_allowed}
 use Rattle.set_up.proofs.refusing.all_codes_allowed.Given as goal
 
 abbrev pub invariant-loop-i : goal.invariant-loop-i
-invariant-loop-i l = (l.i ≤ l.setup.slots) × (l.setup.slots ≤ 32) × (every l.i (λ k. codes_allowed (entry_of l.setup k)) ≡ true)
-
-abbrev pub decreases-loop-i : goal.decreases-loop-i
-decreases-loop-i l = l.setup.slots - l.i
+invariant-loop-i l = every l.i (λ k. codes_allowed (entry_of l.setup k)) ≡ true

@@ -11,7 +11,7 @@ use Rattle.set_up.proofs.refusing.all_defaults_allowed.Invariants.{slot_allowed}
 use Rattle.set_up.proofs.refusing.all_defaults_allowed.Goals as goal
 
 pub loop-i-init : goal.loop-i-init
-loop-i-init c = (omega arith, omega arith, omega arith, every_none _)
+loop-i-init c = every_none _
 
 pub words_allowed-requires : goal.words_allowed-requires
 words_allowed-requires c = (omega arith, omega arith)
@@ -34,7 +34,7 @@ loop-i-preserved c =
     let d = l.args.defaults.now in
     sym (c.words_allowed.ensures ∙ ap (λ (k : Kind). words_allowed k d l.loop-i.i (checked_words k)) c.kind_of_entry.ensures) in
     let l = c in
-    (omega arith, omega arith, omega arith, every_more l.loop-i.i _ l.loop-i.invariant.3 (tested ∙ c.if-not-words_allowed.false))
+    every_more l.loop-i.i _ l.loop-i.invariant (tested ∙ c.if-not-words_allowed.false)
 
 pub returns : goal.returns
 unfolding all_defaults_allowed
@@ -42,4 +42,4 @@ returns c =
     let l = c in
     let a = l.args in
     let e : l.loop-i.i ≡ a.setup.slots = omega arith in
-    sym (ap (λ (n : ℕ). every n (slot_allowed a.setup a.defaults.now)) (sym e) ∙ l.loop-i.invariant.3)
+    sym (ap (λ (n : ℕ). every n (slot_allowed a.setup a.defaults.now)) (sym e) ∙ l.loop-i.invariant)

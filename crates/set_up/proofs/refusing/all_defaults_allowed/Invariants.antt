@@ -1,9 +1,8 @@
 -- `set_up::refusing::all_defaults_allowed` meets its contract: the defaults of the first i slots are allowed.
-use Prim.Native.Nat.{ℕ, ◌*◌, ◌≤◌, ◌-◌}
+use Prim.Native.Nat.{ℕ}
 use mathlib.Core.Path.{◌≡◌}
 use mathlib.Core.Bool.{Bool, true}
 use mathlib.Core.List.{List}
-use lib.ListN.{length}
 use Rattle.bits.specs.Every.{every}
 use Rattle.registers.specs.Rows.{checked_words}
 use Rattle.readiness.specs.declared.Setup.{Setup}
@@ -16,7 +15,4 @@ abbrev pub slot_allowed : Setup → List ℕ → (slot : ℕ) → Bool
 slot_allowed setup defaults k = words_allowed (slot_kind setup k) defaults k (checked_words (slot_kind setup k))
 
 abbrev pub invariant-loop-i : goal.invariant-loop-i
-invariant-loop-i l = (l.i ≤ l.setup.slots) × (l.setup.slots ≤ 32) × (length l.defaults ≡ 64 * l.setup.slots) × (every l.i (slot_allowed l.setup l.defaults) ≡ true)
-
-abbrev pub decreases-loop-i : goal.decreases-loop-i
-decreases-loop-i l = l.setup.slots - l.i
+invariant-loop-i l = every l.i (slot_allowed l.setup l.defaults) ≡ true

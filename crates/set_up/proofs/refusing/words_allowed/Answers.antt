@@ -4,15 +4,12 @@ use mathlib.Core.Bool.{and-true}
 use Rattle.demand3.proofs.Refusals.{words_checked}
 use Rattle.set_up.proofs.refusing.words_allowed.Goals as goal
 
-pub returns-then-not-default_allowed : goal.returns-then-not-default_allowed
-returns-then-not-default_allowed c =
-    let w = c in
-    let a = w.args in
-    rw (words_checked a.kind a.defaults.now a.slot _ w.checked_words-words.ensures.value, sym c.default_allowed.ensures ∙ c.if-not-default_allowed.true)
+pub returns-then-default_allowed : goal.returns-then-default_allowed
+returns-then-default_allowed c =
+    let a = c.args in
+    rw (words_checked a.kind a.defaults.now a.slot _ c.checked_words.ensures.value, sym c.default_allowed.ensures ∙ c.if-default_allowed.true, and-true) c.default_allowed-then-default_allowed.ensures
 
-pub returns : goal.returns
-returns c =
-    let b = c in
-    let w = b in
-    let a = w.args in
-    rw (words_checked a.kind a.defaults.now a.slot _ w.checked_words-words.ensures.value, sym b.default_allowed.ensures ∙ b.if-not-default_allowed.false, and-true) c.default_allowed-2.ensures
+pub returns-else-default_allowed : goal.returns-else-default_allowed
+returns-else-default_allowed c =
+    let a = c.args in
+    rw (words_checked a.kind a.defaults.now a.slot _ c.checked_words.ensures.value, sym c.default_allowed.ensures ∙ c.if-default_allowed.false) c.if-default_allowed.false

@@ -11,7 +11,7 @@ use borrow.Author.Rules.{rules}
 use Rattle.settle.proofs.phases.in_numbers.Goals as goal
 
 pub loop-i-init : goal.loop-i-init
-loop-i-init c = (omega arith, refl, refl)
+loop-i-init c = (refl, refl)
 
 pub put_status-requires : goal.put_status-requires
 put_status-requires c = omega (arith, statuses_length c.loop-i.phases)
@@ -20,13 +20,12 @@ pub loop-i-preserved : goal.loop-i-preserved
 loop-i-preserved c =
     let l = c in
     let n : length l.args.statuses ≡ 32 = search rules in (
-      omega arith,
       omega (arith, c.put_status.auto),
-      ap (take (l.loop-i.i + 1)) c.put_status.ensures.phases_after ∙ take_put (statuses_in l.loop-i.phases) l.args.statuses down _ l.loop-i.i (omega (arith, statuses_length l.loop-i.phases)) (omega arith) l.loop-i.invariant.2 refl,
+      ap (take (l.loop-i.i + 1)) c.put_status.ensures.phases_after ∙ take_put (statuses_in l.loop-i.phases) l.args.statuses down _ l.loop-i.i (omega (arith, statuses_length l.loop-i.phases)) (omega arith) l.loop-i.invariant.1 refl,
     )
 
 pub returns : goal.returns
 returns c =
     let l = c in
     let n : length l.args.statuses ≡ 32 = search rules in
-    take_both (statuses_in l.loop-i.phases) l.args.statuses l.loop-i.i (omega (arith, statuses_length l.loop-i.phases)) (omega arith) l.loop-i.invariant.2
+    take_both (statuses_in l.loop-i.phases) l.args.statuses l.loop-i.i (omega (arith, statuses_length l.loop-i.phases)) (omega arith) l.loop-i.invariant.1

@@ -9,10 +9,10 @@ use borrow.Author.Rules.{rules}
 use Rattle.settle.proofs.phases.in_statuses.Goals as goal
 
 pub loop-i-init : goal.loop-i-init
-loop-i-init c = (omega arith, refl, refl)
+loop-i-init c = (refl, refl)
 
-pub status_at-s-requires : goal.status_at-s-requires
-status_at-s-requires c =
+pub status_at-requires : goal.status_at-requires
+status_at-requires c =
     let a = c.args.phases in
     let n : length a ≡ 128 = search rules in
     omega (arith, statuses_length a)
@@ -22,11 +22,11 @@ loop-i-preserved c =
     let l = c in
     let a = l.args.phases in
     let n : length a ≡ 128 = search rules in
-    (omega arith, simp length-set l.loop-i.invariant.1, take_put l.loop-i.statuses (statuses_in a) _ _ l.loop-i.i (omega arith) (omega (arith, statuses_length a)) l.loop-i.invariant.2 c.status_at-s.ensures)
+    (simp length-set l.loop-i.invariant.0, take_put l.loop-i.statuses (statuses_in a) _ _ l.loop-i.i (omega arith) (omega (arith, statuses_length a)) l.loop-i.invariant.1 c.status_at.ensures)
 
 pub returns : goal.returns
 returns c =
     let l = c in
     let a = l.args.phases in
     let n : length a ≡ 128 = search rules in
-    take_both l.loop-i.statuses (statuses_in a) l.loop-i.i (omega arith) (omega (arith, statuses_length a)) l.loop-i.invariant.2
+    take_both l.loop-i.statuses (statuses_in a) l.loop-i.i (omega arith) (omega (arith, statuses_length a)) l.loop-i.invariant.1

@@ -13,6 +13,6 @@ pub returns-then-port-eq2 : goal.returns-then-port-eq2
 unfolding drs_arrives frs_of_drs
 returns-then-port-eq2 c = simp (c.if-port.false, eq-eqb _ 2 c.if-port-eq2.true) (c.frs_arrives.ensures ∙ ap (frs_arrive _) (c.drs_set-p.ensures _))
 
-pub returns : goal.returns
+pub returns-else-port-eq2 : goal.returns-else-port-eq2
 unfolding drs_arrives frs_of_drs
-returns c = simp (c.if-port.false, ne_eqb _ 2 c.if-port-eq2.false, no_frs) (c.drs_set-p.ensures _)
+returns-else-port-eq2 c = simp (c.if-port.false, ne_eqb _ 2 c.if-port-eq2.false, no_frs) (c.drs_set-p.ensures _)

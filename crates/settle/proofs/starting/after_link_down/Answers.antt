@@ -4,4 +4,4 @@ use Rattle.settle.proofs.starting.after_link_down.Goals as goal
 
 pub returns : goal.returns
 unfolding after_link_down
-returns c = simp c.after_reset-d.ensures
+returns c = simp c.after_reset.ensures

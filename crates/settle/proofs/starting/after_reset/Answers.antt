@@ -4,4 +4,4 @@ use Rattle.settle.proofs.starting.after_reset.Goals as goal
 
 pub returns : goal.returns
 unfolding after_reset
-returns c = simp c.empty-emptied.ensures
+returns c = simp c.empty.ensures

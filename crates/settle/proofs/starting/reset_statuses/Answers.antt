@@ -11,17 +11,16 @@ use borrow.Author.Rules.{rules}
 use Rattle.settle.proofs.starting.reset_statuses.Goals as goal
 
 pub loop-i-init : goal.loop-i-init
-loop-i-init c = (omega arith, c.at_most-n.ensures.upper_bound, search rules, sym (each_none _ 0 0 _ (omega arith)))
+loop-i-init c = (search rules, sym (each_none _ 0 0 _ (omega arith)))
 
 pub loop-i-preserved : goal.loop-i-preserved
 loop-i-preserved c =
     let l = c.loop-i in
-    let a = c.args in
-    (omega arith, omega arith, omega arith, ap (λ (o : List Status). set o l.i down) l.invariant.3 ∙ each_more (λ slot. down) l.i a.statuses (omega arith))
+    (l.invariant.0, ap (λ (o : List Status). set o l.i down) l.invariant.1 ∙ each_more (λ slot. down) l.i c.args.statuses (omega arith))
 
 pub returns : goal.returns
 returns c =
     let l = c.loop-i in
     let a = c.args in
-    let e : l.i ≡ c.at_most-n.result = omega arith in
-    l.invariant.3 ∙ ap (λ (n : ℕ). each_from 0 n (λ slot. down) a.statuses) (e ∙ c.at_most-n.ensures.value) ∙ each-held (λ slot. down) a.setup.slots a.statuses l.invariant.2
+    let e : l.i ≡ c.min-i-end.result = omega arith in
+    l.invariant.1 ∙ ap (λ (n : ℕ). each_from 0 n (λ slot. down) a.statuses) (e ∙ c.min-i-end.ensures) ∙ each-held (λ slot. down) a.setup.slots a.statuses l.invariant.0

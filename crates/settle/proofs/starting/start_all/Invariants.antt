@@ -1,5 +1,5 @@
 -- `settle::starting::start_all` meets its contract: the first i slots are started.
-use Prim.Native.Nat.{ℕ, ◌≤◌, ◌-◌}
+use Prim.Native.Nat.{ℕ}
 use mathlib.Core.Path.{◌≡◌}
 use lib.ListN.{length}
 use Rattle.times.specs.declared.Nanos.{Nanos}
@@ -16,7 +16,4 @@ abbrev started : Setup → Nanos → ℕ → Status
 started setup clock slot = pending LinkUp (sum_of clock (nanos_of (entry_of setup slot).dl_up))
 
 abbrev pub invariant-loop-i : goal.invariant-loop-i
-invariant-loop-i l = (l.i ≤ l.setup.slots) × (length l.phases ≡ length l.initial.phases) × (statuses_in l.phases ≡ each_from 0 l.i (started l.setup l.clock) (statuses_in l.initial.phases)) × (moments_in l.phases ≡ moments_in l.initial.phases)
-
-abbrev pub decreases-loop-i : goal.decreases-loop-i
-decreases-loop-i l = l.setup.slots - l.i
+invariant-loop-i l = (length l.phases ≡ length l.initial.phases) × (statuses_in l.phases ≡ each_from 0 l.i (started l.setup l.dev.clock) (statuses_in l.initial.phases)) × (moments_in l.phases ≡ moments_in l.initial.phases)

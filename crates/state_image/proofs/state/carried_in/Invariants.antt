@@ -7,7 +7,4 @@ use Rattle.bits.proofs.Lists.{done}
 use Rattle.state_image.proofs.state.carried_in.Given as goal
 
 abbrev pub invariant-loop-i : goal.invariant-loop-i
-invariant-loop-i l = (l.i ≤ 16) × (l.carried ≡ done l.i (λ k. byte_at l.bytes (29 + k)) (replicate 16 0))
-
-abbrev pub decreases-loop-i : goal.decreases-loop-i
-decreases-loop-i l = 16 - l.i
+invariant-loop-i l = l.carried ≡ done l.i (λ k. byte_at l.bytes (29 + k)) (replicate 16 0)

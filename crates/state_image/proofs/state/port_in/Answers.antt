@@ -5,4 +5,4 @@ use Rattle.state_image.proofs.state.port_in.Goals as goal
 
 pub returns : goal.returns
 unfolding port_in
-returns c = λ i. record { dev = c.dev_in.ensures i; carried = c.carried_in.ensures i; carried_len = (c.usize_of_u8.ensures.value ∙ c.byte_at.ensures) i; broken = c.is_yes.ensures i }
+returns c = λ i. record { dev = c.dev_in.ensures i; carried = c.carried_in.ensures i; carried_len = (c.from.ensures ∙ c.byte_at.ensures) i; broken = c.is_yes.ensures i }

@@ -14,7 +14,7 @@ use Rattle.state_layout.specs.Image.{up_to}
 use Rattle.state_image.proofs.state.put_carried.Goals as goal
 
 pub loop-i-init : goal.loop-i-init
-loop-i-init c = (omega arith, refl, refl)
+loop-i-init c = (refl, refl)
 
 pub loop-i-preserved : goal.loop-i-preserved
 loop-i-preserved c = let l = c in
@@ -25,11 +25,10 @@ loop-i-preserved c = let l = c in
     let k : 29 + (i + 1) ≡ suc (29 + i) = omega arith in
     let v = cond (ltb i a.count) (get_or a.carried i 0) 0 in
     let rest = drop (i + 1) (up_to a.count a.carried) in (
-      omega arith,
       search rules,
       ap (λ (x : List ℕ). sets x (29 + (i + 1)) rest) (c.put.ensures ∙ ap (λ (x : ℕ). set l.loop-i.bytes (29 + i) x) c.shown.ensures)
           ∙ store_one l.loop-i.bytes (drop i (up_to a.count a.carried)) rest (29 + i) (29 + (i + 1)) v (up_to_more a.count i a.carried h) k
-          ∙ l.loop-i.invariant.2,
+          ∙ l.loop-i.invariant.1,
     )
 
 pub returns : goal.returns
@@ -37,4 +36,4 @@ returns c = let l = c in
     let a = l.args in
     let i = l.loop-i.i in
     let long : length a.carried ≡ 16 = search rules in
-    store_none l.loop-i.bytes (drop i (up_to a.count a.carried)) (29 + i) (up_to_none a.count i a.carried (omega (arith, long, c.loop-i-test.false))) ∙ l.loop-i.invariant.2
+    store_none l.loop-i.bytes (drop i (up_to a.count a.carried)) (29 + i) (up_to_none a.count i a.carried (omega (arith, long, c.loop-i-test.false))) ∙ l.loop-i.invariant.1

@@ -7,7 +7,4 @@ use Rattle.state_layout.specs.Image.{up_to}
 use Rattle.state_image.proofs.state.put_carried.Given as goal
 
 abbrev pub invariant-loop-i : goal.invariant-loop-i
-invariant-loop-i l = (l.i ≤ 16) × (length l.bytes ≡ length l.initial.bytes) × (sets l.bytes (29 + l.i) (drop l.i (up_to l.count l.carried)) ≡ sets l.initial.bytes 29 (up_to l.count l.carried))
-
-abbrev pub decreases-loop-i : goal.decreases-loop-i
-decreases-loop-i l = 16 - l.i
+invariant-loop-i l = (length l.bytes ≡ length l.initial.bytes) × (sets l.bytes (29 + l.i) (drop l.i (up_to l.count l.carried)) ≡ sets l.initial.bytes 29 (up_to l.count l.carried))

@@ -3,4 +3,4 @@ use mathlib.Core.Path.{◌∙◌}
 use Rattle.state_image.proofs.state.queue_in.Goals as goal
 
 pub returns : goal.returns
-returns c = λ i. record { start = (c.usize_of_u16.ensures.value ∙ c.two_at.ensures) i; depth = (c.usize_of_u16-2.ensures.value ∙ c.two_at-2.ensures) i; received = c.is_yes.ensures i; overflow = c.is_yes-2.ensures i }
+returns c = λ i. record { start = (c.from.ensures ∙ c.two_at.ensures) i; depth = (c.from-2.ensures ∙ c.two_at-2.ensures) i; received = c.is_yes.ensures i; overflow = c.is_yes-2.ensures i }

@@ -7,7 +7,4 @@ use Rattle.state_layout.specs.Reading.{statuses_in_bytes}
 use Rattle.state_image.proofs.state.statuses_in.Given as goal
 
 abbrev pub invariant-loop-i : goal.invariant-loop-i
-invariant-loop-i l = (l.i ≤ 32) × (length l.statuses ≡ 32) × (sets l.statuses l.i (statuses_in_bytes (32 - l.i) (drop (46 + 27 * l.i) l.bytes)) ≡ statuses_in_bytes 32 (drop 46 l.bytes))
-
-abbrev pub decreases-loop-i : goal.decreases-loop-i
-decreases-loop-i l = 32 - l.i
+invariant-loop-i l = (length l.statuses ≡ 32) × (sets l.statuses l.i (statuses_in_bytes (32 - l.i) (drop (46 + 27 * l.i) l.bytes)) ≡ statuses_in_bytes 32 (drop 46 l.bytes))

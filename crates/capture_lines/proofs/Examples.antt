@@ -7,13 +7,14 @@ use Rattle.times.specs.declared.Nanos.{Nanos}
 use Rattle.ticks.specs.declared.Stamp.{Stamp}
 use Rattle.ticks.specs.declared.Ticks.{Ticks}
 use Rattle.ticks.specs.Ticks.{difference, went_back, in_nanos}
-use Rattle.capture.specs.Advances.{none, was, advances}
+use Rattle.capture.specs.Advances.{advances}
 use Rattle.records.specs.declared.Record.TheVariants.{LinkUp}
 use Rattle.text_line.specs.Text.{glyph_of, hex_of, decimal_from, text_if, short_margin, margin_of, column_of}
 use Rattle.describe_records.specs.Records.{listed_text, kind_of, record_text}
 use Rattle.describe_trace.specs.Answers.{status_text, interrupts_text, count_text, data_of, reads_of, data_text, answer_text}
 use Rattle.describe_trace.specs.Traces.{number_meaning, number_text}
-use Rattle.capture_lines.specs.declared.CaptureFault.TheVariants.{Nothing, WentBack, AdvanceFirst, AdvanceKind, NoKind, StampCut, NoRecord, RecordCut}
+use Rattle.std.specs.Prelude.{Some, None}
+use Rattle.capture_lines.specs.declared.CaptureFault.TheVariants.{WentBack, AdvanceFirst, AdvanceKind, NoKind, StampCut, NoRecord, RecordCut}
 use Rattle.capture_lines.specs.Stamps.{ten_of, stamp_column, stamp_text, clock_column, difference_text, span_text, advance_count, advance_at, part_text, advance_text}
 use Rattle.capture_lines.specs.Captures.{place_text, replayed_text, advanced_text, in_hand_text, replay_end_text, since_text, entry_text, capture_totals_text}
 use Rattle.capture_lines.specs.Faults.{forward_fault, later_fault, kind_fault, end_fault, in_hand, fault_byte, apart_text, went_back_text, advance_first_text, advance_kind_text, no_kind_text, stamp_cut_text, no_record_text, record_cut_text, fault_text, fault_message, went_back_line, advance_kind_line, no_kind_line, stamp_cut_line, no_record_line, record_cut_line, fault_line}
@@ -72,11 +73,11 @@ unfolding replay_end_text in_hand_text number_text number_meaning decimal_from g
 end_in_record = refl
 
 -- ---- shown
-first_entry : entry_text 4 none (stamp 4294967196) LinkUp ≡ chars "       4  4294967196 ticks  the first stamp                    link up"
+first_entry : entry_text 4 None (stamp 4294967196) LinkUp ≡ chars "       4  4294967196 ticks  the first stamp                    link up"
 unfolding entry_text since_text record_text ten_of stamp_column clock_column place_text text_if column_of margin_of short_margin decimal_from glyph_of
 first_entry = refl
 
-later_entry : entry_text 9 (was (stamp 4294967196)) (stamp 100) LinkUp ≡ chars "       9         100 ticks  +       200 ticks =        800 ns  link up"
+later_entry : entry_text 9 (Some (stamp 4294967196)) (stamp 100) LinkUp ≡ chars "       9         100 ticks  +       200 ticks =        800 ns  link up"
 unfolding entry_text since_text difference_text difference in_nanos record_text ten_of stamp_column clock_column place_text text_if column_of margin_of short_margin decimal_from glyph_of
 later_entry = refl
 
@@ -86,109 +87,109 @@ totals = refl
 
 -- ---- what ends a capture early
 -- a kind 01 after a stamp that goes back is 32, and after one that goes forward 33
-back-first : kind_fault (was (stamp 1000)) (stamp 5) 1 5 ≡ WentBack (stamp 1000) (stamp 5)
+back-first : kind_fault (Some (stamp 1000)) (stamp 5) 1 5 ≡ Some (WentBack (stamp 1000) (stamp 5))
 unfolding kind_fault later_fault went_back difference
 back-first = refl
 
-advance-next : kind_fault (was (stamp 1000)) (stamp 1005) 1 5 ≡ AdvanceKind (stamp 1000) (stamp 1005)
+advance-next : kind_fault (Some (stamp 1000)) (stamp 1005) 1 5 ≡ Some (AdvanceKind (stamp 1000) (stamp 1005))
 unfolding kind_fault later_fault forward_fault went_back difference
 advance-next = refl
 
-advance_at_first : kind_fault none (stamp 1005) 1 5 ≡ AdvanceFirst (stamp 1005)
+advance_at_first : kind_fault None (stamp 1005) 1 5 ≡ Some (AdvanceFirst (stamp 1005))
 unfolding kind_fault forward_fault
 advance_at_first = refl
 
 -- 2^31 ticks are back, one less is forward
-just_back : kind_fault (was (stamp 0)) (stamp 2147483648) 5 1 ≡ WentBack (stamp 0) (stamp 2147483648)
+just_back : kind_fault (Some (stamp 0)) (stamp 2147483648) 5 1 ≡ Some (WentBack (stamp 0) (stamp 2147483648))
 unfolding kind_fault later_fault went_back difference
 just_back = refl
 
-just_forward : kind_fault (was (stamp 0)) (stamp 2147483647) 5 1 ≡ Nothing
+just_forward : kind_fault (Some (stamp 0)) (stamp 2147483647) 5 1 ≡ None
 unfolding kind_fault later_fault forward_fault went_back difference
 just_forward = refl
 
 -- the first stamp never goes back
-first_forward : kind_fault none (stamp 4294967295) 0x0E 0 ≡ NoKind (stamp 4294967295) 0x0E
+first_forward : kind_fault None (stamp 4294967295) 0x0E 0 ≡ Some (NoKind (stamp 4294967295) 0x0E)
 unfolding kind_fault forward_fault
 first_forward = refl
 
-ends-whole : end_fault (stamp 0) 0 0 0 0 ≡ Nothing
+ends-whole : end_fault (stamp 0) 0 0 0 0 ≡ None
 unfolding end_fault
 ends-whole = refl
 
-ends_in_stamp : end_fault (stamp 1000) 3 0 0 0 ≡ StampCut 3
+ends_in_stamp : end_fault (stamp 1000) 3 0 0 0 ≡ Some (StampCut 3)
 unfolding end_fault
 ends_in_stamp = refl
 
-ends_after_stamp : end_fault (stamp 1000) 4 0 0 0 ≡ NoRecord (stamp 1000)
+ends_after_stamp : end_fault (stamp 1000) 4 0 0 0 ≡ Some (NoRecord (stamp 1000))
 unfolding end_fault
 ends_after_stamp = refl
 
-ends_in_record : end_fault (stamp 1000) 0 0x03 6 8 ≡ RecordCut (stamp 1000) 0x03 6 8
+ends_in_record : end_fault (stamp 1000) 0 0x03 6 8 ≡ Some (RecordCut (stamp 1000) 0x03 6 8)
 unfolding end_fault
 ends_in_record = refl
 
 -- the byte that is named, with 124 consumed
-back_byte : fault_byte 124 (WentBack (stamp 1000) (stamp 5)) ≡ 120
+back_byte : fault_byte 124 (Some (WentBack (stamp 1000) (stamp 5))) ≡ 120
 unfolding fault_byte in_hand
 back_byte = refl
 
-advance_byte : fault_byte 124 (AdvanceKind (stamp 1000) (stamp 1005)) ≡ 124
+advance_byte : fault_byte 124 (Some (AdvanceKind (stamp 1000) (stamp 1005))) ≡ 124
 unfolding fault_byte in_hand
 advance_byte = refl
 
-cut_byte : fault_byte 124 (RecordCut (stamp 1000) 0x03 6 8) ≡ 118
+cut_byte : fault_byte 124 (Some (RecordCut (stamp 1000) 0x03 6 8)) ≡ 118
 unfolding fault_byte in_hand
 cut_byte = refl
 
-went_back_lem : fault_message 120 (WentBack (stamp 1000) (stamp 5)) ≡ chars "byte 120: 32: the recorder went back: stamp 1000 ticks, then stamp 5 ticks, which is 995 ticks (3980 ns) back or 4294966301 ticks forward: expected less than 2147483648 ticks (8589934592 ns) forward"
+went_back_lem : fault_message 120 (Some (WentBack (stamp 1000) (stamp 5))) ≡ chars "byte 120: 32: the recorder went back: stamp 1000 ticks, then stamp 5 ticks, which is 995 ticks (3980 ns) back or 4294966301 ticks forward: expected less than 2147483648 ticks (8589934592 ns) forward"
 unfolding went_back_text apart_text span_text difference in_nanos fault_message fault_text stamp_text decimal_from hex_of glyph_of
 went_back_lem = refl
 
-advance-first : fault_message 4 (AdvanceFirst (stamp 1000)) ≡ chars "byte 4: 33: kind 01h (advance) after stamp 1000 ticks, the first: an advance comes from the stamps alone; expected 02h to 0Dh"
+advance-first : fault_message 4 (Some (AdvanceFirst (stamp 1000))) ≡ chars "byte 4: 33: kind 01h (advance) after stamp 1000 ticks, the first: an advance comes from the stamps alone; expected 02h to 0Dh"
 unfolding advance_first_text fault_message fault_text stamp_text decimal_from hex_of glyph_of
 advance-first = refl
 
-advance_kind : fault_message 124 (AdvanceKind (stamp 1000) (stamp 1005)) ≡ chars "byte 124: 33: kind 01h (advance) after stamp 1005 ticks, 5 ticks (20 ns) after stamp 1000 ticks: an advance comes from the stamps alone; expected 02h to 0Dh"
+advance_kind : fault_message 124 (Some (AdvanceKind (stamp 1000) (stamp 1005))) ≡ chars "byte 124: 33: kind 01h (advance) after stamp 1005 ticks, 5 ticks (20 ns) after stamp 1000 ticks: an advance comes from the stamps alone; expected 02h to 0Dh"
 unfolding advance_kind_text span_text difference in_nanos fault_message fault_text stamp_text decimal_from hex_of glyph_of
 advance_kind = refl
 
-no_kind : fault_message 124 (NoKind (stamp 1000) 0x0E) ≡ chars "byte 124: 31: 0Eh after stamp 1000 ticks is no kind: expected 02h to 0Dh"
+no_kind : fault_message 124 (Some (NoKind (stamp 1000) 0x0E)) ≡ chars "byte 124: 31: 0Eh after stamp 1000 ticks is no kind: expected 02h to 0Dh"
 unfolding no_kind_text fault_message fault_text stamp_text decimal_from hex_of glyph_of
 no_kind = refl
 
-stamp_cut : fault_message 120 (StampCut 2) ≡ chars "byte 120: the stamp is cut off: expected 4 bytes, and there are 2"
+stamp_cut : fault_message 120 (Some (StampCut 2)) ≡ chars "byte 120: the stamp is cut off: expected 4 bytes, and there are 2"
 unfolding stamp_cut_text fault_message fault_text stamp_text decimal_from hex_of glyph_of
 stamp_cut = refl
 
-no_record : fault_message 120 (NoRecord (stamp 1000)) ≡ chars "byte 120: stamp 1000 ticks is without its record: expected a kind, 02h to 0Dh"
+no_record : fault_message 120 (Some (NoRecord (stamp 1000))) ≡ chars "byte 120: stamp 1000 ticks is without its record: expected a kind, 02h to 0Dh"
 unfolding no_record_text fault_message fault_text stamp_text decimal_from hex_of glyph_of
 no_record = refl
 
-record_cut : fault_message 124 (RecordCut (stamp 1000) 0x03 6 8) ≡ chars "byte 124: the record of kind 03h after stamp 1000 ticks is cut off: expected 8 bytes, and there are 6"
+record_cut : fault_message 124 (Some (RecordCut (stamp 1000) 0x03 6 8)) ≡ chars "byte 124: the record of kind 03h after stamp 1000 ticks is cut off: expected 8 bytes, and there are 6"
 unfolding record_cut_text fault_message fault_text stamp_text decimal_from hex_of glyph_of
 record_cut = refl
 
-went_back_line_lem : fault_line 120 (WentBack (stamp 1000) (stamp 5)) ≡ chars "     120           5 ticks  the recorder went back, after stamp 1000 ticks: the capture ends here"
+went_back_line_lem : fault_line 120 (Some (WentBack (stamp 1000) (stamp 5))) ≡ chars "     120           5 ticks  the recorder went back, after stamp 1000 ticks: the capture ends here"
 unfolding went_back_line fault_line stamp_text ten_of stamp_column clock_column place_text text_if column_of margin_of short_margin decimal_from glyph_of hex_of
 went_back_line_lem = refl
 
-advance_kind_line_lem : fault_line 124 (AdvanceKind (stamp 995) (stamp 1000)) ≡ chars "     124        1000 ticks  kind 01h (advance): the capture ends here"
+advance_kind_line_lem : fault_line 124 (Some (AdvanceKind (stamp 995) (stamp 1000))) ≡ chars "     124        1000 ticks  kind 01h (advance): the capture ends here"
 unfolding advance_kind_line fault_line stamp_text ten_of stamp_column clock_column place_text text_if column_of margin_of short_margin decimal_from glyph_of hex_of
 advance_kind_line_lem = refl
 
-no_kind_line_lem : fault_line 124 (NoKind (stamp 1000) 0x0E) ≡ chars "     124        1000 ticks  unknown kind 0Eh (kinds are 02h to 0Dh): the capture is broken here"
+no_kind_line_lem : fault_line 124 (Some (NoKind (stamp 1000) 0x0E)) ≡ chars "     124        1000 ticks  unknown kind 0Eh (kinds are 02h to 0Dh): the capture is broken here"
 unfolding no_kind_line fault_line stamp_text ten_of stamp_column clock_column place_text text_if column_of margin_of short_margin decimal_from glyph_of hex_of
 no_kind_line_lem = refl
 
-stamp_cut_line_lem : fault_line 120 (StampCut 2) ≡ chars "     120  incomplete stamp: the file has 2 of its 4 bytes"
+stamp_cut_line_lem : fault_line 120 (Some (StampCut 2)) ≡ chars "     120  incomplete stamp: the file has 2 of its 4 bytes"
 unfolding stamp_cut_line fault_line stamp_text ten_of stamp_column clock_column place_text text_if column_of margin_of short_margin decimal_from glyph_of hex_of
 stamp_cut_line_lem = refl
 
-no_record_line_lem : fault_line 120 (NoRecord (stamp 1000)) ≡ chars "     120        1000 ticks  a stamp without its record: the file ends here"
+no_record_line_lem : fault_line 120 (Some (NoRecord (stamp 1000))) ≡ chars "     120        1000 ticks  a stamp without its record: the file ends here"
 unfolding no_record_line fault_line stamp_text ten_of stamp_column clock_column place_text text_if column_of margin_of short_margin decimal_from glyph_of hex_of
 no_record_line_lem = refl
 
-record_cut_line_lem : fault_line 124 (RecordCut (stamp 1000) 0x03 6 8) ≡ chars "     124        1000 ticks  incomplete record of kind 03h: the file has 6 of its 8 bytes"
+record_cut_line_lem : fault_line 124 (Some (RecordCut (stamp 1000) 0x03 6 8)) ≡ chars "     124        1000 ticks  incomplete record of kind 03h: the file has 6 of its 8 bytes"
 unfolding record_cut_line fault_line stamp_text ten_of stamp_column clock_column place_text text_if column_of margin_of short_margin decimal_from glyph_of hex_of
 record_cut_line_lem = refl

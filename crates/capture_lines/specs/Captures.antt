@@ -1,10 +1,10 @@
 -- The lines of a capture that is replayed or shown, and its end.
-use Rattle.std.specs.Prelude.{ℕ, cond, List, [], ◌++◌, eqb, ltb}
+use Rattle.std.specs.Prelude.{ℕ, cond, List, [], ◌++◌, eqb, ltb, None, Some}
 use Rattle.bits.specs.Text.{chars}
 use Rattle.times.specs.declared.Nanos.{Nanos}
 use Rattle.ticks.specs.declared.Stamp.{Stamp}
 use Rattle.ticks.specs.Ticks.{difference}
-use Rattle.capture.specs.Advances.{Earlier, none, was}
+use Rattle.capture.specs.Advances.{Earlier}
 use Rattle.records.specs.declared.Record.{Record}
 use Rattle.records.specs.declared.Record.TheVariants.{Advance}
 use Rattle.text_line.specs.Text.{named, column_of}
@@ -51,8 +51,8 @@ replay_end_text number consumed records advances carried stamped =
 -- ---- Shown
 -- the difference to the stamp before; the first stamp has none
 unfoldable pub since_text : Earlier → Stamp → List ℕ
-since_text none stamp = chars "the first stamp                  "
-since_text (was e) stamp = chars "+" ++ difference_text (difference e stamp)
+since_text None stamp = chars "the first stamp                  "
+since_text (Some e) stamp = chars "+" ++ difference_text (difference e stamp)
 
 -- an entry: the byte offset of its record's kind, its stamp, the difference to the stamp before, and the record
 unfoldable pub entry_text : ℕ → Earlier → Stamp → Record → List ℕ

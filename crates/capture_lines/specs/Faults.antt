@@ -1,57 +1,47 @@
 -- What ends a capture early (02, Q-5): 32, 33, 31, or the end of the file within an entry.
-use Rattle.std.specs.Prelude.{ℕ, ◌-◌, Bool, true, false, cond, List, [], ◌++◌, eqb, ltb}
+use Rattle.std.specs.Prelude.{ℕ, ◌-◌, cond, Option, Some, None, List, [], ◌++◌, eqb, ltb}
 use Rattle.bits.specs.Text.{chars}
 use Rattle.ticks.specs.declared.Stamp.{Stamp}
 use Rattle.ticks.specs.Ticks.{difference, went_back}
-use Rattle.capture.specs.Advances.{Earlier, none, was}
+use Rattle.capture.specs.Advances.{Earlier}
 use Rattle.text_line.specs.Text.{hex_of, named, column_of}
 use Rattle.capture_lines.specs.declared.CaptureFault.{CaptureFault}
-use Rattle.capture_lines.specs.declared.CaptureFault.TheVariants.{Nothing, WentBack, AdvanceFirst, AdvanceKind, NoKind, StampCut, NoRecord, RecordCut}
+use Rattle.capture_lines.specs.declared.CaptureFault.TheVariants.{WentBack, AdvanceFirst, AdvanceKind, NoKind, StampCut, NoRecord, RecordCut}
 use Rattle.capture_lines.specs.Stamps.{stamp_text, span_text}
 use Rattle.capture_lines.specs.Captures.{place_text}
 
 -- ---- Which it is
 -- at a kind byte after a stamp that goes forward: 33, with the stamps that it names, then 31, where a record of that kind has no size
-unfoldable pub forward_fault : CaptureFault → Stamp → (kind size : ℕ) → CaptureFault
-forward_fault advance stamp kind size = cond (eqb kind 1) advance (cond (eqb size 0) (NoKind stamp kind) Nothing)
+unfoldable pub forward_fault : CaptureFault → Stamp → (kind size : ℕ) → Option CaptureFault
+forward_fault advance stamp kind size = cond (eqb kind 1) (Some advance) (cond (eqb size 0) (Some (NoKind stamp kind)) None)
 
 -- at a kind byte with an earlier stamp: 32 first
-unfoldable pub later_fault : (earlier stamp : Stamp) → (kind size : ℕ) → CaptureFault
+unfoldable pub later_fault : (earlier stamp : Stamp) → (kind size : ℕ) → Option CaptureFault
 later_fault earlier stamp kind size =
-    cond (went_back (difference earlier stamp)) (WentBack earlier stamp) (forward_fault (AdvanceKind earlier stamp) stamp kind size)
+    cond (went_back (difference earlier stamp)) (Some (WentBack earlier stamp)) (forward_fault (AdvanceKind earlier stamp) stamp kind size)
 
-unfoldable pub kind_fault : Earlier → Stamp → (kind size : ℕ) → CaptureFault
-kind_fault none stamp kind size = forward_fault (AdvanceFirst stamp) stamp kind size
-kind_fault (was e) stamp kind size = later_fault e stamp kind size
+unfoldable pub kind_fault : Earlier → Stamp → (kind size : ℕ) → Option CaptureFault
+kind_fault None stamp kind size = forward_fault (AdvanceFirst stamp) stamp kind size
+kind_fault (Some e) stamp kind size = later_fault e stamp kind size
 
 -- at the end of the file: so many bytes of a record are in hand, or else so many of a stamp
-unfoldable pub end_fault : Stamp → (stamped kind count size : ℕ) → CaptureFault
+unfoldable pub end_fault : Stamp → (stamped kind count size : ℕ) → Option CaptureFault
 end_fault stamp stamped kind count size =
-    cond (ltb 0 count) (RecordCut stamp kind count size)
-    (cond (eqb stamped 0) Nothing (cond (ltb stamped 4) (StampCut stamped) (NoRecord stamp)))
-
-unfoldable pub is_fault : CaptureFault → Bool
-is_fault Nothing = false
-is_fault (WentBack earlier stamp) = true
-is_fault (AdvanceFirst stamp) = true
-is_fault (AdvanceKind earlier stamp) = true
-is_fault (NoKind stamp kind) = true
-is_fault (StampCut count) = true
-is_fault (NoRecord stamp) = true
-is_fault (RecordCut stamp kind count size) = true
+    cond (ltb 0 count) (Some (RecordCut stamp kind count size))
+    (cond (eqb stamped 0) None (cond (ltb stamped 4) (Some (StampCut stamped)) (Some (NoRecord stamp))))
 
 -- how many bytes before the next one its own byte is: the stamp's first, or the record's kind
-unfoldable pub in_hand : CaptureFault → ℕ
-in_hand Nothing = 0
-in_hand (WentBack earlier stamp) = 4
-in_hand (AdvanceFirst stamp) = 0
-in_hand (AdvanceKind earlier stamp) = 0
-in_hand (NoKind stamp kind) = 0
-in_hand (StampCut count) = count
-in_hand (NoRecord stamp) = 4
-in_hand (RecordCut stamp kind count size) = count
+unfoldable pub in_hand : Option CaptureFault → ℕ
+in_hand None = 0
+in_hand (Some (WentBack earlier stamp)) = 4
+in_hand (Some (AdvanceFirst stamp)) = 0
+in_hand (Some (AdvanceKind earlier stamp)) = 0
+in_hand (Some (NoKind stamp kind)) = 0
+in_hand (Some (StampCut count)) = count
+in_hand (Some (NoRecord stamp)) = 4
+in_hand (Some (RecordCut stamp kind count size)) = count
 
-unfoldable pub fault_byte : (next : ℕ) → CaptureFault → ℕ
+unfoldable pub fault_byte : (next : ℕ) → Option CaptureFault → ℕ
 fault_byte next fault = next - in_hand fault
 
 -- ---- What is wrong, and what was expected
@@ -103,18 +93,18 @@ record_cut_text stamp kind count size =
     ++ named (chars " is cut off: expected ") size
     ++ named (chars " bytes, and there are ") count
 
-unfoldable pub fault_text : CaptureFault → List ℕ
-fault_text Nothing = []
-fault_text (WentBack earlier stamp) = went_back_text earlier stamp
-fault_text (AdvanceFirst stamp) = advance_first_text stamp
-fault_text (AdvanceKind earlier stamp) = advance_kind_text earlier stamp
-fault_text (NoKind stamp kind) = no_kind_text stamp kind
-fault_text (StampCut count) = stamp_cut_text count
-fault_text (NoRecord stamp) = no_record_text stamp
-fault_text (RecordCut stamp kind count size) = record_cut_text stamp kind count size
+unfoldable pub fault_text : Option CaptureFault → List ℕ
+fault_text None = []
+fault_text (Some (WentBack earlier stamp)) = went_back_text earlier stamp
+fault_text (Some (AdvanceFirst stamp)) = advance_first_text stamp
+fault_text (Some (AdvanceKind earlier stamp)) = advance_kind_text earlier stamp
+fault_text (Some (NoKind stamp kind)) = no_kind_text stamp kind
+fault_text (Some (StampCut count)) = stamp_cut_text count
+fault_text (Some (NoRecord stamp)) = no_record_text stamp
+fault_text (Some (RecordCut stamp kind count size)) = record_cut_text stamp kind count size
 
 -- at its byte of the file
-unfoldable pub fault_message : ℕ → CaptureFault → List ℕ
+unfoldable pub fault_message : ℕ → Option CaptureFault → List ℕ
 fault_message offset fault = named (chars "byte ") offset ++ chars ": " ++ fault_text fault
 
 -- ---- As a line among those of the entries
@@ -143,12 +133,12 @@ record_cut_line offset stamp kind count size =
     ++ named (chars " of its ") size
     ++ chars " bytes"
 
-unfoldable pub fault_line : ℕ → CaptureFault → List ℕ
-fault_line offset Nothing = []
-fault_line offset (WentBack earlier stamp) = went_back_line offset earlier stamp
-fault_line offset (AdvanceFirst stamp) = advance_kind_line offset stamp
-fault_line offset (AdvanceKind earlier stamp) = advance_kind_line offset stamp
-fault_line offset (NoKind stamp kind) = no_kind_line offset stamp kind
-fault_line offset (StampCut count) = stamp_cut_line offset count
-fault_line offset (NoRecord stamp) = no_record_line offset stamp
-fault_line offset (RecordCut stamp kind count size) = record_cut_line offset stamp kind count size
+unfoldable pub fault_line : ℕ → Option CaptureFault → List ℕ
+fault_line offset None = []
+fault_line offset (Some (WentBack earlier stamp)) = went_back_line offset earlier stamp
+fault_line offset (Some (AdvanceFirst stamp)) = advance_kind_line offset stamp
+fault_line offset (Some (AdvanceKind earlier stamp)) = advance_kind_line offset stamp
+fault_line offset (Some (NoKind stamp kind)) = no_kind_line offset stamp kind
+fault_line offset (Some (StampCut count)) = stamp_cut_line offset count
+fault_line offset (Some (NoRecord stamp)) = no_record_line offset stamp
+fault_line offset (Some (RecordCut stamp kind count size)) = record_cut_line offset stamp kind count size

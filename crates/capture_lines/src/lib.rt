@@ -6,7 +6,6 @@ use ticks::Stamp;
 // What ends a capture early.
 #[derive(Clone, Copy)]
 pub enum CaptureFault {
-    Nothing,
     // 32: the earlier stamp, and the one that goes back from it.
     WentBack(Stamp, Stamp),
     // 33: kind 01 after this stamp, the first.

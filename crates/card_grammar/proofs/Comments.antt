@@ -4,13 +4,19 @@ use mathlib.Core.Bool.{Bool, true, false, cond}
 use mathlib.Core.List.{List, [], ◌∷◌, ◌++◌}
 use Prim.Native.Nat.{ℕ, zero, suc, ◌+◌, ◌-◌, ◌≤◌}
 use native.Mathlib.Omega.{arith}
-use lib.Dec.{eqb, ltb}
+use lib.Dec.{eqb}
 use lib.ListN.{length, take, drop, length-drop}
 use lib.Seq.{drop-append-le, take-append-le}
-use Rattle.card_grammar.specs.declared.Reason.TheVariants.{Fine, UnknownWord, BadNumber, LineTooShort, LineTooLong}
-use Rattle.text_fields.specs.Text.{number_at, is_blank, in_field, run, run_end, field_start, field_end, field, no_field, same, no_number, number_of}
+use Rattle.std.specs.Prelude.{Option, Result, Ok}
+use Rattle.std.specs.Option.{ok_or}
+use Rattle.text_fields.specs.declared.Numeral.{Numeral}
+use Rattle.text_fields.specs.Text.{number_at, is_blank, in_field, run, run_end, field_start, field_end, field, no_field, same, number_of}
+use Rattle.card_grammar.specs.declared.Reason.{Reason}
+use Rattle.card_grammar.specs.declared.Reason.TheVariants.{UnknownWord, BadNumber, LineTooShort, LineTooLong}
+use Rattle.card_grammar.specs.declared.Fact.{Fact}
+use Rattle.card_grammar.specs.declared.Named.{Named}
 use Rattle.card_grammar.specs.Names.{name_slots, name_queue, name_bus, name_port, name_slot, name_word, name_reset, name_dl_up, name_flr, name_d3hot, name_frs, name_yes, name_no}
-use Rattle.card_grammar.specs.Grammar.{unfit, wants_word, wants_number, wants_end, why_not_number, enter_number, word_allowed, why_not_word, enter_word, is_yes, wants_yes_no, wants_code, why_not_codes, why_not_frs, why_not_slot, put_code, put_frs, enter_slot, is_fact, enter_line}
+use Rattle.card_grammar.specs.Grammar.{and_then, unless, unfit, word_wanted, number_wanted, end_wanted, decimal, hex, hex_of, number_fact, enter_slots, enter_queue, enter_bus, enter_port, code_wanted, yes_no_wanted, entry_wanted, enter_slot, place_wanted, enter_word, is_fact, enter_line}
 use Rattle.text_fields.proofs.Runs.{start_most, end_most}
 
 -- a run ends at the latest where a byte stands that doesn't pass
@@ -56,53 +62,46 @@ module _ (s t : List ℕ) where
   unfolding no_field
   none_same k = ap₂ eqb (start_same k) (end_same k)
 
-  number_same : (hex : Bool) (least most k : ℕ) → number_at hex least most k more ≡ number_at hex least most k s
-  number_same hex least most k = ap (number_of hex least most) (field_same k)
+  number_same : (form : Numeral) (k : ℕ) → number_at form k more ≡ number_at form k s
+  number_same form k = ap (number_of form) (field_same k)
 
-  word_wanted : (name : List ℕ) (k : ℕ) → wants_word name k more ≡ wants_word name k s
-  unfolding wants_word unfit
-  word_wanted name k = ap₂ (λ (f : List ℕ) (x : Bool). cond (same f name) Fine (cond x LineTooShort UnknownWord)) (field_same k) (none_same k)
+  words : (name : List ℕ) (k : ℕ) → word_wanted name k more ≡ word_wanted name k s
+  unfolding word_wanted unfit
+  words name k = ap₂ (λ (f : List ℕ) (x : Bool). unless (same f name) (cond x LineTooShort UnknownWord)) (field_same k) (none_same k)
 
-  number_wanted : (hex : Bool) (least most k : ℕ) → wants_number hex least most k more ≡ wants_number hex least most k s
-  unfolding wants_number unfit
-  number_wanted hex least most k =
-      ap₂ (λ (n : ℕ) (x : Bool). cond (ltb n no_number) Fine (cond x LineTooShort BadNumber)) (number_same hex least most k) (none_same k)
+  numbers : (form : Numeral) (k : ℕ) → number_wanted form k more ≡ number_wanted form k s
+  unfolding number_wanted unfit
+  numbers form k = ap₂ (λ (n : Option ℕ) (x : Bool). ok_or n (cond x LineTooShort BadNumber)) (number_same form k) (none_same k)
 
-  end_wanted : (k : ℕ) → wants_end k more ≡ wants_end k s
-  unfolding wants_end
-  end_wanted k = ap (λ (x : Bool). cond x Fine LineTooLong) (none_same k)
+  ends : (k : ℕ) → end_wanted k more ≡ end_wanted k s
+  unfolding end_wanted
+  ends k = ap (λ (x : Bool). unless x LineTooLong) (none_same k)
 
-  number_line : (place : ℕ) (hex : Bool) (least most low high : ℕ) (table : List ℕ)
-      → enter_number place hex least most low high more table ≡ enter_number place hex least most low high s table
-  unfolding enter_number why_not_number
-  number_line place hex least most low high table = rw (number_wanted hex least most 1, end_wanted 2, number_same hex least most 1)
+  facts : (fact : Fact) (named : Bool) → number_fact fact named more ≡ number_fact fact named s
+  unfolding number_fact
+  facts fact named = simp (numbers fact.form 1, ends 2)
 
-  word_line : (table : List ℕ) → enter_word more table ≡ enter_word s table
-  unfolding enter_word why_not_word word_allowed
-  word_line table =
-      rw (number_wanted false 1 8 1, number_wanted true 1 8 2, number_wanted true 1 8 3, end_wanted 4, number_same false 1 8 1, number_same true 1 8 2, number_same true 1 8 3)
+  codes : (name : List ℕ) (k : ℕ) → code_wanted name k more ≡ code_wanted name k s
+  unfolding code_wanted
+  codes name k = simp (words name k, numbers (hex_of 3) (suc k))
 
-  yes_same : (k : ℕ) → is_yes k more ≡ is_yes k s
-  yes_same k = ap (λ (f : List ℕ). same f name_yes) (field_same k)
+  yes_no : (k : ℕ) → yes_no_wanted k more ≡ yes_no_wanted k s
+  unfolding yes_no_wanted
+  yes_no k =
+      ap₂ (λ (f : List ℕ) (r : Result (Unit {0}) Reason). cond (same f name_yes) (Ok true) (and_then r (λ (u : Unit {0}). Ok false))) (field_same k) (words name_no k)
 
-  code_wanted : (name : List ℕ) (k next : ℕ) → wants_code name k next more ≡ wants_code name k next s
-  unfolding wants_code
-  code_wanted name k next = rw (word_wanted name k, number_wanted true 3 3 next)
+  entries : entry_wanted more ≡ entry_wanted s
+  unfolding entry_wanted
+  entries = simp (codes name_reset 2, codes name_dl_up 4, codes name_flr 6, codes name_d3hot 8, words name_frs 10, yes_no 11, ends 12)
 
-  slot_why : (table : List ℕ) → why_not_slot more table ≡ why_not_slot s table
-  unfolding why_not_slot why_not_codes why_not_frs wants_yes_no
-  slot_why table =
-      rw (number_wanted false 1 8 1, code_wanted name_reset 2 3, code_wanted name_dl_up 4 5, code_wanted name_flr 6 7, code_wanted name_d3hot 8 9, word_wanted name_frs 10, yes_same 11, word_wanted name_no 11, end_wanted 12, number_same false 1 8 1)
-
-  slot_line : (table : List ℕ) → enter_slot more table ≡ enter_slot s table
-  unfolding enter_slot put_code put_frs
-  slot_line table =
-      rw (slot_why table, number_same false 1 8 1, number_same true 3 3 3, number_same true 3 3 5, number_same true 3 3 7, number_same true 3 3 9, yes_same 11)
+  places : (slots : Option ℕ) → place_wanted more slots ≡ place_wanted s slots
+  unfolding place_wanted
+  places slots = simp (numbers decimal 1, numbers hex 2, numbers hex 3, ends 4)
 
   fact_same : (name : List ℕ) → is_fact name more ≡ is_fact name s
   fact_same name = ap (λ (f : List ℕ). same f name) (field_same 0)
 
-  pub comment_line : (table : List ℕ) → enter_line more table ≡ enter_line s table
-  unfolding enter_line
-  comment_line table =
-      rw (none_same 0, fact_same name_slots, fact_same name_queue, fact_same name_bus, fact_same name_port, fact_same name_slot, fact_same name_word, number_line, number_line, number_line, number_line, slot_line table, word_line table)
+  pub comment_line : (named : Named) → enter_line more named ≡ enter_line s named
+  unfolding enter_line enter_slots enter_queue enter_bus enter_port enter_slot enter_word
+  comment_line named =
+      simp (none_same 0, fact_same name_slots, fact_same name_queue, fact_same name_bus, fact_same name_port, fact_same name_slot, fact_same name_word, facts, numbers decimal 1, entries, places)

@@ -6,18 +6,19 @@ use Prim.Native.Nat.{ℕ}
 use Prim.Native.String.{String}
 use lib.ListN.{get_or, replicate}
 use Rattle.readiness.specs.declared.Slot.{Slot}
-use Rattle.bits.specs.Lists.{listed}
+use Rattle.std.specs.Prelude.{Option, Some, None, Result, Ok, Err}
 use Rattle.card_grammar.specs.declared.Reason.{Reason}
-use Rattle.card_grammar.specs.declared.Reason.TheVariants.{Fine, UnknownWord, BadNumber, LineTooShort, LineTooLong, OutOfRange, SlotsFirst, NamedTwice, Missing, NoRoom}
-use Rattle.card_grammar.specs.declared.CardRead.{CardRead}
-use Rattle.card_grammar.specs.Grammar.{first_of, unfit, wants_word, wants_number, wants_end, in_range, not_twice, slot_allowed, put, why_not_number, enter_number, offset_allowed, word_allowed, why_not_word, enter_word, wants_yes_no, wants_code, why_not_codes, why_not_frs, why_not_slot, put_code, put_frs, enter_slot, enter_line, read_lines}
-use Rattle.card_grammar.specs.Card.{slots_from, setup_from, missing, room, words_from, stored_words, outcome_from, card_of}
+use Rattle.card_grammar.specs.declared.Reason.TheVariants.{UnknownWord, BadNumber, LineTooShort, LineTooLong, OutOfRange, SlotsFirst, NamedTwice, Missing, NoRoom}
+use Rattle.card_grammar.specs.declared.Card.{Card}
+use Rattle.card_grammar.specs.declared.CardError.{CardError}
+use Rattle.card_grammar.specs.Grammar.{unfit, word_wanted, number_wanted, end_wanted, number_fact, enter_slots, enter_queue, enter_bus, enter_port, place_wanted, enter_word, yes_no_wanted, code_wanted, entry_wanted, enter_slot, enter_line, read_lines}
+use Rattle.card_grammar.specs.Card.{entries_from, words_from, card_from, card_of}
 use Rattle.bits.specs.Text.{chars}
-use Rattle.text_fields.specs.Text.{in_line, lines_of, is_blank, in_field, run, field_start, no_field, same, digit_of, value_from, width_allowed, number_of}
+use Rattle.text_fields.specs.Text.{in_line, lines_of, is_blank, in_field, run, field_start, no_field, digit_of, value_from, width_allowed, number_of}
 
 -- ---- whole texts, with 2,048 words lent
 
-abbrev reading : String → CardRead
+abbrev reading : String → Result Card CardError
 reading text = (card_of (chars text) (replicate 2048 0)).read
 
 -- marked case 10
@@ -28,28 +29,27 @@ abbrev slot : (reset dl_up flr d3hot : ℕ) → Bool → Slot
 slot reset dl_up flr d3hot frs = record { reset = record { 0 = reset }; dl_up = record { 0 = dl_up }; flr = record { 0 = flr }; d3hot = record { 0 = d3hot }; sends_frs = frs }
 
 case_10 : reading case10
-    ≡ record {
-      ok = true;
-      line = 8;
-      reason = Fine;
+    ≡ Ok (record {
+      lines = 8;
       setup = record { slots = 1; entries = slot 0x000 0x00A 0x005 0x000 true ∷ replicate 31 (slot 0 0 0 0 false); bus = 0x01; port_id = 0x0008 };
       queue = 1;
-    }
-unfolding lines_of in_line field_start run is_blank in_field no_field same digit_of value_from width_allowed number_of first_of unfit wants_word wants_number wants_end in_range not_twice slot_allowed put why_not_number enter_number offset_allowed word_allowed why_not_word enter_word wants_yes_no wants_code why_not_codes why_not_frs why_not_slot put_code put_frs enter_slot enter_line read_lines missing room outcome_from card_of setup_from slots_from
+    })
+unfolding lines_of in_line field_start run is_blank in_field no_field digit_of value_from width_allowed number_of unfit word_wanted number_wanted end_wanted number_fact enter_slots enter_queue enter_bus enter_port place_wanted enter_word yes_no_wanted code_wanted entry_wanted enter_slot enter_line read_lines card_from card_of entries_from words_from
 case_10 = refl
 
 -- the first default word
 case_10_words : get_or (card_of (chars case10) (replicate 2048 0xEEEEEEEE)).words 0x00 0 ≡ 0x56781234
-unfolding lines_of in_line field_start run is_blank in_field no_field same digit_of value_from width_allowed number_of first_of unfit wants_word wants_number wants_end in_range not_twice slot_allowed put why_not_number enter_number offset_allowed word_allowed why_not_word enter_word wants_yes_no wants_code why_not_codes why_not_frs why_not_slot put_code put_frs enter_slot enter_line read_lines missing room outcome_from card_of words_from stored_words listed
+unfolding lines_of in_line field_start run is_blank in_field no_field digit_of value_from width_allowed number_of unfit word_wanted number_wanted end_wanted number_fact enter_slots enter_queue enter_bus enter_port place_wanted enter_word yes_no_wanted code_wanted entry_wanted enter_slot enter_line read_lines card_from card_of words_from
 case_10_words = refl
 
--- the line that is refused and the reason; where the text is a card, how many lines it has
-abbrev verdict : String → ℕ × Reason
-verdict text = ((reading text).line, (reading text).reason)
+-- the line that is refused and the reason; nothing where the text is a card
+abbrev verdict : Result Card CardError → Option (ℕ × Reason)
+verdict (Ok card) = None
+verdict (Err e) = Some (e.line, e.reason)
 
-abbrev verdicts : List String → List (ℕ × Reason)
+abbrev verdicts : List String → List (Option (ℕ × Reason))
 verdicts [] = []
-verdicts (text ∷ more) = verdict text ∷ verdicts more
+verdicts (text ∷ more) = verdict (reading text) ∷ verdicts more
 
 -- a word that is no fact, or not the one wanted there
 unknown_words : verdicts
@@ -58,8 +58,8 @@ unknown_words : verdicts
     ∷ "slots 2\nqueue 4\nbus 01\nport 0008\nslot 0 reset 000 dlup 00A flr 005 d3hot 000 frs maybe"
     ∷ "Slots 2"
     ∷ [])
-    ≡ (1, UnknownWord) ∷ (5, UnknownWord) ∷ (5, UnknownWord) ∷ (1, UnknownWord) ∷ []
-unfolding lines_of in_line field_start run is_blank in_field no_field same digit_of value_from width_allowed number_of first_of unfit wants_word wants_number wants_end in_range not_twice slot_allowed put why_not_number enter_number offset_allowed word_allowed why_not_word enter_word wants_yes_no wants_code why_not_codes why_not_frs why_not_slot put_code put_frs enter_slot enter_line read_lines missing room outcome_from card_of
+    ≡ Some (1, UnknownWord) ∷ Some (5, UnknownWord) ∷ Some (5, UnknownWord) ∷ Some (1, UnknownWord) ∷ []
+unfolding lines_of in_line field_start run is_blank in_field no_field digit_of value_from width_allowed number_of unfit word_wanted number_wanted end_wanted number_fact enter_slots enter_queue enter_bus enter_port place_wanted enter_word yes_no_wanted code_wanted entry_wanted enter_slot enter_line read_lines card_from card_of
 unknown_words = refl
 
 -- no number, or one of another width
@@ -71,8 +71,8 @@ bad_numbers : verdicts
     ∷ "bus 0G"
     ∷ "slots 2\nqueue 4\nbus 01\nport 0008\nslot 0 reset A1 dlup 00A flr 005 d3hot 000 frs yes"
     ∷ [])
-    ≡ (1, BadNumber) ∷ (1, BadNumber) ∷ (3, BadNumber) ∷ (1, BadNumber) ∷ (1, BadNumber) ∷ (5, BadNumber) ∷ []
-unfolding lines_of in_line field_start run is_blank in_field no_field same digit_of value_from width_allowed number_of first_of unfit wants_word wants_number wants_end in_range not_twice slot_allowed put why_not_number enter_number offset_allowed word_allowed why_not_word enter_word wants_yes_no wants_code why_not_codes why_not_frs why_not_slot put_code put_frs enter_slot enter_line read_lines missing room outcome_from card_of
+    ≡ Some (1, BadNumber) ∷ Some (1, BadNumber) ∷ Some (3, BadNumber) ∷ Some (1, BadNumber) ∷ Some (1, BadNumber) ∷ Some (5, BadNumber) ∷ []
+unfolding lines_of in_line field_start run is_blank in_field no_field digit_of value_from width_allowed number_of unfit word_wanted number_wanted end_wanted number_fact enter_slots enter_queue enter_bus enter_port place_wanted enter_word yes_no_wanted code_wanted entry_wanted enter_slot enter_line read_lines card_from card_of
 bad_numbers = refl
 
 -- the line ends too early, or goes on
@@ -82,8 +82,8 @@ line_ends : verdicts
     ∷ "slots 2 3"
     ∷ "slots 2\nqueue 4\nbus 01\nport 0008\nslot 0 reset 000 dlup 00A flr 005 d3hot 000 frs yes no"
     ∷ [])
-    ≡ (1, LineTooShort) ∷ (5, LineTooShort) ∷ (1, LineTooLong) ∷ (5, LineTooLong) ∷ []
-unfolding lines_of in_line field_start run is_blank in_field no_field same digit_of value_from width_allowed number_of first_of unfit wants_word wants_number wants_end in_range not_twice slot_allowed put why_not_number enter_number offset_allowed word_allowed why_not_word enter_word wants_yes_no wants_code why_not_codes why_not_frs why_not_slot put_code put_frs enter_slot enter_line read_lines missing room outcome_from card_of
+    ≡ Some (1, LineTooShort) ∷ Some (5, LineTooShort) ∷ Some (1, LineTooLong) ∷ Some (5, LineTooLong) ∷ []
+unfolding lines_of in_line field_start run is_blank in_field no_field digit_of value_from width_allowed number_of unfit word_wanted number_wanted end_wanted number_fact enter_slots enter_queue enter_bus enter_port place_wanted enter_word yes_no_wanted code_wanted entry_wanted enter_slot enter_line read_lines card_from card_of
 line_ends = refl
 
 -- a number that isn't allowed there
@@ -96,8 +96,8 @@ ranges : verdicts
     ∷ "slots 2\nqueue 4\nbus 01\nport 0008\nword 0 02 1"
     ∷ "slots 2\nqueue 4\nbus 01\nport 0008\nword 0 100 1"
     ∷ [])
-    ≡ (1, OutOfRange) ∷ (1, OutOfRange) ∷ (1, OutOfRange) ∷ (1, OutOfRange) ∷ (5, OutOfRange) ∷ (5, OutOfRange) ∷ (5, OutOfRange) ∷ []
-unfolding lines_of in_line field_start run is_blank in_field no_field same digit_of value_from width_allowed number_of first_of unfit wants_word wants_number wants_end in_range not_twice slot_allowed put why_not_number enter_number offset_allowed word_allowed why_not_word enter_word wants_yes_no wants_code why_not_codes why_not_frs why_not_slot put_code put_frs enter_slot enter_line read_lines missing room outcome_from card_of
+    ≡ Some (1, OutOfRange) ∷ Some (1, OutOfRange) ∷ Some (1, OutOfRange) ∷ Some (1, OutOfRange) ∷ Some (5, OutOfRange) ∷ Some (5, OutOfRange) ∷ Some (5, OutOfRange) ∷ []
+unfolding lines_of in_line field_start run is_blank in_field no_field digit_of value_from width_allowed number_of unfit word_wanted number_wanted end_wanted number_fact enter_slots enter_queue enter_bus enter_port place_wanted enter_word yes_no_wanted code_wanted entry_wanted enter_slot enter_line read_lines card_from card_of
 ranges = refl
 
 -- slots come first
@@ -105,8 +105,8 @@ slots_first : verdicts
     ("slot 0 reset 000 dlup 00A flr 005 d3hot 000 frs no\nslots 1"
     ∷ "queue 1\nword 0 00 1\nslots 1"
     ∷ [])
-    ≡ (1, SlotsFirst) ∷ (2, SlotsFirst) ∷ []
-unfolding lines_of in_line field_start run is_blank in_field no_field same digit_of value_from width_allowed number_of first_of unfit wants_word wants_number wants_end in_range not_twice slot_allowed put why_not_number enter_number offset_allowed word_allowed why_not_word enter_word wants_yes_no wants_code why_not_codes why_not_frs why_not_slot put_code put_frs enter_slot enter_line read_lines missing room outcome_from card_of
+    ≡ Some (1, SlotsFirst) ∷ Some (2, SlotsFirst) ∷ []
+unfolding lines_of in_line field_start run is_blank in_field no_field digit_of value_from width_allowed number_of unfit word_wanted number_wanted end_wanted number_fact enter_slots enter_queue enter_bus enter_port place_wanted enter_word yes_no_wanted code_wanted entry_wanted enter_slot enter_line read_lines card_from card_of
 slots_first = refl
 
 -- nothing is named twice
@@ -115,8 +115,8 @@ named_twice : verdicts
     ∷ "slots 2\nqueue 4\nbus 01\nport 0008\nslot 1 reset 000 dlup 00A flr 005 d3hot 000 frs no\n\nslot 1 reset 000 dlup 00A flr 005 d3hot 000 frs no"
     ∷ "slots 2\nqueue 4\nbus 01\nport 0008\nword 1 44 0\nword 1 48 0\nword 1 44 0"
     ∷ [])
-    ≡ (2, NamedTwice) ∷ (7, NamedTwice) ∷ (7, NamedTwice) ∷ []
-unfolding lines_of in_line field_start run is_blank in_field no_field same digit_of value_from width_allowed number_of first_of unfit wants_word wants_number wants_end in_range not_twice slot_allowed put why_not_number enter_number offset_allowed word_allowed why_not_word enter_word wants_yes_no wants_code why_not_codes why_not_frs why_not_slot put_code put_frs enter_slot enter_line read_lines missing room outcome_from card_of
+    ≡ Some (2, NamedTwice) ∷ Some (7, NamedTwice) ∷ Some (7, NamedTwice) ∷ []
+unfolding lines_of in_line field_start run is_blank in_field no_field digit_of value_from width_allowed number_of unfit word_wanted number_wanted end_wanted number_fact enter_slots enter_queue enter_bus enter_port place_wanted enter_word yes_no_wanted code_wanted entry_wanted enter_slot enter_line read_lines card_from card_of
 named_twice = refl
 
 -- at the end: the last line's number
@@ -124,8 +124,8 @@ all_named : verdicts
     (""
     ∷ "slots 2\nqueue 4\nport 0008\n"
     ∷ [])
-    ≡ (0, Missing) ∷ (3, Missing) ∷ []
-unfolding lines_of in_line field_start run is_blank in_field no_field same digit_of value_from width_allowed number_of first_of unfit wants_word wants_number wants_end in_range not_twice slot_allowed put why_not_number enter_number offset_allowed word_allowed why_not_word enter_word wants_yes_no wants_code why_not_codes why_not_frs why_not_slot put_code put_frs enter_slot enter_line read_lines missing room outcome_from card_of
+    ≡ Some (0, Missing) ∷ Some (3, Missing) ∷ []
+unfolding lines_of in_line field_start run is_blank in_field no_field digit_of value_from width_allowed number_of unfit word_wanted number_wanted end_wanted number_fact enter_slots enter_queue enter_bus enter_port place_wanted enter_word yes_no_wanted code_wanted entry_wanted enter_slot enter_line read_lines card_from card_of
 all_named = refl
 
 -- the least card
@@ -133,11 +133,11 @@ least_cards : verdicts
     ("slots 2\nqueue 4\nbus 01\nport 0008\n"
     ∷ "\tport 0008 # the root port\r\nbus 01\nqueue 4095\nslots 32"
     ∷ [])
-    ≡ (4, Fine) ∷ (4, Fine) ∷ []
-unfolding lines_of in_line field_start run is_blank in_field no_field same digit_of value_from width_allowed number_of first_of unfit wants_word wants_number wants_end in_range not_twice slot_allowed put why_not_number enter_number offset_allowed word_allowed why_not_word enter_word wants_yes_no wants_code why_not_codes why_not_frs why_not_slot put_code put_frs enter_slot enter_line read_lines missing room outcome_from card_of
+    ≡ None ∷ None ∷ []
+unfolding lines_of in_line field_start run is_blank in_field no_field digit_of value_from width_allowed number_of unfit word_wanted number_wanted end_wanted number_fact enter_slots enter_queue enter_bus enter_port place_wanted enter_word yes_no_wanted code_wanted entry_wanted enter_slot enter_line read_lines card_from card_of
 least_cards = refl
 
 -- 2,048 words must be lent
-too_few_words : (card_of (chars case10) (replicate 2047 0)).read.reason ≡ NoRoom
-unfolding lines_of in_line field_start run is_blank in_field no_field same digit_of value_from width_allowed number_of first_of unfit wants_word wants_number wants_end in_range not_twice slot_allowed put why_not_number enter_number offset_allowed word_allowed why_not_word enter_word wants_yes_no wants_code why_not_codes why_not_frs why_not_slot put_code put_frs enter_slot enter_line read_lines missing room outcome_from card_of
+too_few_words : verdict (card_of (chars case10) (replicate 2047 0)).read ≡ Some (8, NoRoom)
+unfolding lines_of in_line field_start run is_blank in_field no_field digit_of value_from width_allowed number_of unfit word_wanted number_wanted end_wanted number_fact enter_slots enter_queue enter_bus enter_port place_wanted enter_word yes_no_wanted code_wanted entry_wanted enter_slot enter_line read_lines card_from card_of
 too_few_words = refl

@@ -1,228 +1,239 @@
--- What the lines leave in the table: each number within its limits.
-use mathlib.Core.Path.{◌≡◌, refl, sym, ap, ◌∙◌}
-use mathlib.Core.Bool.{Bool, true, false, ◌&&◌, ◌||◌, cond, false≢true}
+-- What lines leave named: each number within its limits.
+use mathlib.Core.Path.{◌≡◌, refl, subst}
+use mathlib.Core.Bool.{Bool, true, false, ◌&&◌, cond}
 use mathlib.Core.List.{List, [], ◌∷◌}
-use Prim.Native.Nat.{ℕ, suc, ◌%◌, ◌≤◌, ◌<◌}
-use native.Mathlib.Nat.{mod-eq_of_lt, lt_of_le_of_lt}
-use native.Mathlib.Omega.{arith}
-use lib.Dec.{eqb, leb, ltb}
-use lib.ListN.{length, get_or, set, get_or-replicate, length-replicate, get_or-eq_default}
-use lib.Seq.{set_out, get_or-set_same, get_or-set_other}
-use borrow.Author.Tests.{leb-true, ltb-true, ltb-false, eqb-true, eqb-false, lt-ltb, le-ltb, le-leb}
-use Rattle.bits.specs.Bits.{one}
-use Rattle.bits.proofs.Bits.{one_most}
-use Rattle.bits.proofs.Tests.{both_left, both_right, not_both, or_last}
+use Prim.Native.Nat.{ℕ, zero, suc, ◌≤◌, ◌<◌}
+use lib.Dec.{leb, ltb}
+use lib.ListN.{get_or, set, replicate}
+use borrow.Author.Tests.{leb-true, ltb-true}
+use Rattle.std.specs.Prelude.{Option, Some, None, is_some, Result, Ok, Err}
+use Rattle.std.specs.Option.{IfSome, ok_or}
+use Rattle.std.specs.Result.{IfOk}
+use Rattle.bits.proofs.Tests.{both_left, both_right}
+use Rattle.times.specs.declared.Code.{Code}
+use Rattle.readiness.specs.declared.Slot.{Slot}
+use Rattle.text_fields.specs.declared.Base.TheVariants.{Hex}
+use Rattle.text_fields.specs.declared.Numeral.{Numeral}
+use Rattle.text_fields.specs.Text.{number_at, field, no_field}
+use Rattle.text_fields.proofs.Numbers.{number_small, code_small}
 use Rattle.card_grammar.specs.declared.Reason.{Reason}
-use Rattle.card_grammar.specs.declared.Reason.TheVariants.{Fine, BadNumber, LineTooShort, OutOfRange, SlotsFirst, Missing}
-use Rattle.text_fields.specs.Text.{number_at, field, no_field, no_number}
-use Rattle.card_grammar.specs.Grammar.{not_named, default_place, slots_place, queue_place, bus_place, port_place, entry_place, places, named, is_fine, first_of, unfit, wants_word, wants_number, in_range, slot_allowed, Entered, put, why_not_number, enter_number, slot_at, hex_at, code_at, offset_allowed, word_allowed, why_not_word, enter_word, is_yes, wants_code, why_not_codes, why_not_slot, put_code, put_frs, enter_slot, is_fact, enter_line, Told, read_lines}
-use Rattle.card_grammar.specs.Names.{name_slots, name_queue, name_bus, name_port, name_slot, name_word, name_reset, name_dl_up, name_flr, name_d3hot}
-use Rattle.card_grammar.specs.Card.{blank_table, named_below}
-use Rattle.text_fields.proofs.Numbers.{code_small}
+use Rattle.card_grammar.specs.declared.Reason.TheVariants.{OutOfRange}
+use Rattle.card_grammar.specs.declared.Fact.{Fact}
+use Rattle.card_grammar.specs.declared.Named.{Named}
+use Rattle.card_grammar.specs.Names.{name_slots, name_queue, name_bus, name_port, name_slot, name_word, name_reset, name_dl_up, name_flr, name_d3hot, name_frs}
+use Rattle.card_grammar.specs.Grammar.{and_then, unless, word_wanted, number_wanted, end_wanted, fresh, decimal, hex, hex_of, slots_fact, queue_fact, bus_fact, port_fact, in_range, number_fact, enter_slots, enter_queue, enter_bus, enter_port, slot_allowed, code_wanted, yes_no_wanted, entry_wanted, enter_slot, offset_allowed, place_wanted, enter_word, is_fact, enter_line, Told, at_line, read_lines}
+use Rattle.card_grammar.specs.Card.{nothing_named}
 
--- ---- reasons
+-- ---- results
 
-pub fine_both : (a b : Reason) → is_fine (first_of a b) ≡ true → (is_fine a ≡ true) × (is_fine b ≡ true)
-unfolding first_of
-fine_both a b h = go (is_fine a) refl h
-  where
-    go : (t : Bool) → is_fine a ≡ t → is_fine (cond t b a) ≡ true → (is_fine a ≡ true) × (is_fine b ≡ true)
-    go true e f = (e, f)
-    go false e f = not_both f e
+-- what holds of each value that goes on holds of the value at the end
+pub then_ok : {A B E : Type 0} (P : B → Type 0) (r : Result A E) (f : A → Result B E) → ((a : A) → r ≡ Ok a → IfOk (f a) P) → IfOk (and_then r f) P
+then_ok P (Ok a) f h = h a refl
+then_ok P (Err e) f h = tt
 
-pub fine_test : (t : Bool) (why : Reason) → is_fine why ≡ false → is_fine (cond t Fine why) ≡ true → t ≡ true
-fine_test true why n h = refl
-fine_test false why n h = not_both h n
+pub if_ok : {A E : Type 0} (P : A → Type 0) {r : Result A E} {a : A} → r ≡ Ok a → IfOk r P → P a
+if_ok P e h = subst (λ r. IfOk r P) e h
 
-pub fine_named : (t : Bool) → is_fine (cond t Missing Fine) ≡ true → t ≡ false
-fine_named true h = absurd (false≢true h)
-fine_named false h = refl
+pub passed : (t : Bool) (why : Reason) {u : Unit {0}} → unless t why ≡ Ok u → t ≡ true
+passed true why e = refl
+passed false why e = cc
 
--- ---- limits
+pub was_some : {A : Type 0} (o : Option A) (why : Reason) {a : A} → ok_or o why ≡ Ok a → o ≡ Some a
+was_some (Some b) why e = cc
+was_some None why e = cc
 
--- what may stand at a place: what is not named, or a number within the place's limits
-abbrev pub lowest : ℕ → ℕ
-lowest place = cond (ltb place slots_place) 0 (cond (ltb queue_place place) 0 1)
+pub at_line_ok : {A : Type 0} (n : ℕ) (r : Result A Reason) {a : A} → at_line n r ≡ Ok a → r ≡ Ok a
+at_line_ok n (Ok b) e = cc
+at_line_ok n (Err why) e = cc
 
-abbrev pub highest : ℕ → ℕ
-highest place =
-    cond (ltb place slots_place) 0xFFFFFFFF
-    (cond (ltb port_place place) 0xFFF (cond (eqb place slots_place) 32 (cond (eqb place queue_place) 4095 (cond (eqb place bus_place) 0xFF 0xFFFF))))
+-- ---- numbers
 
-abbrev pub allowed : (place n : ℕ) → Bool
-allowed place n = eqb n not_named || leb (lowest place) n && leb n (highest place)
+is_number : (form : Numeral) (k : ℕ) (line : List ℕ) {n : ℕ} → number_wanted form k line ≡ Ok n → number_at form k line ≡ Some n
+unfolding number_wanted
+is_number form k line e = was_some (number_at form k line) _ e
 
-abbrev pub Kept : List ℕ → Type 0
-Kept table = (place : ℕ) → allowed place (named place table) ≡ true
+pub number_fits : (form : Numeral) (k : ℕ) (line : List ℕ) {n : ℕ} → number_wanted form k line ≡ Ok n → n < 4294967296
+number_fits form k line e = number_small form (field k line) (is_number form k line e)
 
-allowed-word : (place n : ℕ) → place < 2048 → n ≤ 0xFFFFFFFF → allowed place n ≡ true
-allowed-word place n h l = or_last (eqb n not_named) _ (simp (lt-ltb place 2048 h, le-leb n 0xFFFFFFFF l, le-leb 0 n (omega arith)))
+pub code_fits : (k : ℕ) (line : List ℕ) {n : ℕ} → number_wanted (hex_of 3) k line ≡ Ok n → n < 4096
+code_fits k line e = code_small Hex (field k line) (is_number (hex_of 3) k line e)
 
-allowed_entry : (place n : ℕ) → 2051 < place → n ≤ 0xFFF → allowed place n ≡ true
-allowed_entry place n h l =
-    let past : ltb place 2048 ≡ false = le-ltb place 2048 (omega arith) in
-    let above : ltb 2049 place ≡ true = lt-ltb 2049 place (omega arith) in
-    or_last (eqb n not_named) _ (simp (past, above, lt-ltb 2051 place h, le-leb n 0xFFF l, le-leb 0 n (omega arith)))
+abbrev pub Within : Fact → ℕ → Type 0
+Within fact n = (fact.low ≤ n) × (n ≤ fact.high)
 
--- ---- a table with one number more
+pub fact_within : (fact : Fact) (named : Bool) (line : List ℕ) → IfOk (number_fact fact named line) (Within fact)
+unfolding number_fact
+fact_within fact named line =
+    then_ok (Within fact) (number_wanted fact.form 1 line) _ λ n e.
+    then_ok (Within fact) (end_wanted 2 line) _ λ u f.
+    then_ok (Within fact) (in_range fact n) _ λ v g.
+    then_ok (Within fact) (fresh named) _ λ w h.
+    let both : (leb fact.low n && leb n fact.high) ≡ true = passed (leb fact.low n && leb n fact.high) OutOfRange g in
+    (leb-true fact.low n (both_left (leb fact.low n) (leb n fact.high) both), leb-true n fact.high (both_right (leb fact.low n) (leb n fact.high) both))
 
-same_place : (p n : ℕ) (table : List ℕ) → Kept table → allowed p n ≡ true → (t : Bool) → ltb p (length table) ≡ t → allowed p (get_or (set table p n) p 0) ≡ true
-same_place p n table k h true e = ap (allowed p) (get_or-set_same table p n 0 (ltb-true p (length table) e)) ∙ h
-same_place p n table k h false e = ap (λ (l : List ℕ). allowed p (get_or l p 0)) (set_out table p n (ltb-false p (length table) e)) ∙ k p
+pub slot_below : (slots : Option ℕ) (n : ℕ) {u : Unit {0}} → slot_allowed slots n ≡ Ok u → n < 32
+slot_below None n e = cc
+slot_below (Some slots) n e = ltb-true n 32 (both_right (ltb n slots) (ltb n 32) (passed (ltb n slots && ltb n 32) OutOfRange e))
 
-each-place : (p n : ℕ) (table : List ℕ) → Kept table → allowed p n ≡ true → (q : ℕ) (t : Bool) → eqb q p ≡ t → allowed q (get_or (set table p n) q 0) ≡ true
-each-place p n table k h q true e =
-    ap (λ (m : ℕ). allowed m (get_or (set table p n) m 0)) (eqb-true q p e) ∙ same_place p n table k h (ltb p (length table)) refl
-each-place p n table k h q false e = ap (allowed q) (get_or-set_other table p q n 0 (eqb-false q p e)) ∙ k q
+-- ---- what has been named
 
-either_put : (t : Bool) (p n : ℕ) (table : List ℕ) → Kept table → (t ≡ true → allowed p n ≡ true) → Kept (cond t (set table p n) table)
-either_put true p n table k h q = each-place p n table k (h refl) q (eqb q p) refl
-either_put false p n table k h q = k q
+-- a code has three digits
+pub record Small (s : Slot) : Type 0 where
+  pub reset : s.reset.0 < 4096
+  pub dl_up : s.dl_up.0 < 4096
+  pub flr : s.flr.0 < 4096
+  pub d3hot : s.d3hot.0 < 4096
 
-kept_put : (why : Reason) (p n : ℕ) (table : List ℕ) → Kept table → (is_fine why ≡ true → allowed p n ≡ true) → Kept (put why p n table)
-unfolding put
-kept_put why p n table k h = either_put (is_fine why) p n table k h
+pub record Kept (named : Named) : Type 0 where
+  pub slots : IfSome named.slots (Within slots_fact)
+  pub queue : IfSome named.queue (Within queue_fact)
+  pub bus : IfSome named.bus (Within bus_fact)
+  pub port : IfSome named.port (Within port_fact)
+  pub entries : (n : ℕ) → IfSome (get_or named.entries n None) Small
+  pub words : (place : ℕ) → IfSome (get_or named.words place None) (λ w. w < 4294967296)
+
+none_at : {A : Type 0} (P : Option A → Type 0) (n i : ℕ) → P None → P (get_or (replicate n None) i None)
+none_at P zero i p = p
+none_at P (suc n) zero p = p
+none_at P (suc n) (suc i) p = none_at P n i p
+
+pub kept_nothing : Kept nothing_named
+kept_nothing =
+    record {
+      slots = tt;
+      queue = tt;
+      bus = tt;
+      port = tt;
+      entries = λ n. none_at (λ o. IfSome o Small) 32 n tt;
+      words = λ n. none_at (λ o. IfSome o (λ w. w < 4294967296)) 2048 n tt;
+    }
+
+-- one more in a list
+set_at : {A : Type 0} (P : Option A → Type 0) (l : List (Option A)) (n : ℕ) (a : A) → P (Some a) → ((m : ℕ) → P (get_or l m None)) → (m : ℕ)
+    → P (get_or (set l n (Some a)) m None)
+set_at P [] n a p k m = k m
+set_at P (x ∷ l) zero a p k zero = p
+set_at P (x ∷ l) zero a p k (suc m) = k (suc m)
+set_at P (x ∷ l) (suc n) a p k zero = k zero
+set_at P (x ∷ l) (suc n) a p k (suc m) = set_at P l n a p (λ j. k (suc j)) m
 
 -- ---- a line
 
-module _ (place : ℕ) (hex : Bool) (least most low high : ℕ) (limits : (n : ℕ) → (leb low n && leb n high) ≡ true → allowed place n ≡ true)
-    (line table : List ℕ) (k : Kept table) where
-  kept-number : Kept (enter_number place hex least most low high line table).table
-  unfolding enter_number why_not_number in_range
-  kept-number =
-      let n : ℕ = number_at hex least most 1 line in
-      kept_put (why_not_number place hex least most low high line table) place n table k
-      (λ e. limits n (fine_test (leb low n && leb n high) OutOfRange refl (fine_both _ _ (fine_both _ _ (fine_both _ _ e).1).1).0))
+module _ (line : List ℕ) (named : Named) (k : Kept named) where
+  kept_slots : IfOk (enter_slots line named) Kept
+  unfolding enter_slots
+  kept_slots =
+      then_ok Kept (number_fact slots_fact (is_some named.slots) line) _ λ n e.
+      record { slots = if_ok (Within slots_fact) e (fact_within slots_fact (is_some named.slots) line); queue = k.queue; bus = k.bus; port = k.port; entries = k.entries; words = k.words }
 
--- a slot that is allowed is below 32
-small_slot : (x n : ℕ) (t : Bool) → eqb x not_named ≡ t → is_fine (cond t SlotsFirst (cond (ltb n x) Fine OutOfRange)) ≡ true
-    → (t || leb 1 x && leb x 32) ≡ true → n < 32
-small_slot x n true e f h = absurd (false≢true f)
-small_slot x n false e f h =
-    omega (arith, ltb-true n x (fine_test (ltb n x) OutOfRange refl f), leb-true x 32 (both_right (leb 1 x) (leb x 32) h))
+  kept_queue : IfOk (enter_queue line named) Kept
+  unfolding enter_queue
+  kept_queue =
+      then_ok Kept (number_fact queue_fact (is_some named.queue) line) _ λ n e.
+      record { slots = k.slots; queue = if_ok (Within queue_fact) e (fact_within queue_fact (is_some named.queue) line); bus = k.bus; port = k.port; entries = k.entries; words = k.words }
 
-slot_below : (n : ℕ) (table : List ℕ) → Kept table → is_fine (slot_allowed n table) ≡ true → n < 32
-unfolding slot_allowed
-slot_below n table k f = small_slot (named slots_place table) n (eqb (named slots_place table) not_named) refl f (k slots_place)
+  kept_bus : IfOk (enter_bus line named) Kept
+  unfolding enter_bus
+  kept_bus =
+      then_ok Kept (number_fact bus_fact (is_some named.bus) line) _ λ n e.
+      record { slots = k.slots; queue = k.queue; bus = if_ok (Within bus_fact) e (fact_within bus_fact (is_some named.bus) line); port = k.port; entries = k.entries; words = k.words }
 
-offset_below : (o : ℕ) → is_fine (offset_allowed o) ≡ true → o < 256
-unfolding offset_allowed
-offset_below o f = ltb-true o 256 (both_left (ltb o 256) (eqb (o % 4) 0) (fine_test (ltb o 256 && eqb (o % 4) 0) OutOfRange refl f))
+  kept_port : IfOk (enter_port line named) Kept
+  unfolding enter_port
+  kept_port =
+      then_ok Kept (number_fact port_fact (is_some named.port) line) _ λ n e.
+      record { slots = k.slots; queue = k.queue; bus = k.bus; port = if_ok (Within port_fact) e (fact_within port_fact (is_some named.port) line); entries = k.entries; words = k.words }
 
--- a field that is wanted to be a number is one
-not_fit : (t : Bool) → is_fine (cond t LineTooShort BadNumber) ≡ false
-not_fit true = refl
-not_fit false = refl
+  abbrev Digits3 : Code → Type 0
+  Digits3 c = c.0 < 4096
 
-fine_number : (hex : Bool) (least most j : ℕ) (line : List ℕ) → is_fine (wants_number hex least most j line) ≡ true → number_at hex least most j line < no_number
-unfolding wants_number unfit
-fine_number hex least most j line f =
-    ltb-true (number_at hex least most j line) no_number
-    (fine_test (ltb (number_at hex least most j line) no_number) (cond (no_field j line) LineTooShort BadNumber) (not_fit (no_field j line)) f)
+  codes : (name : List ℕ) (j : ℕ) → IfOk (code_wanted name j line) Digits3
+  unfolding code_wanted
+  codes name j =
+      then_ok Digits3 (word_wanted name j line) _ λ u f.
+      then_ok Digits3 (number_wanted (hex_of 3) (suc j) line) _ λ n g. code_fits (suc j) line g
 
-kept_word : (line table : List ℕ) → Kept table → Kept (enter_word line table).table
-unfolding enter_word why_not_word word_allowed
-kept_word line table k =
-    let n : ℕ = slot_at line in
-    let o : ℕ = hex_at 2 line in
-    kept_put (why_not_word line table) (default_place n o) (hex_at 3 line) table k
-    (λ e.
-    let third = fine_both _ _ (fine_both _ _ (fine_both _ _ e).1).1 in
-    let both = (fine_both _ _ third.1).1 in
-    let v : hex_at 3 line < no_number = fine_number true 1 8 3 line third.0 in
-    let a : n < 32 = slot_below n table k (fine_both _ _ both).0 in
-    let b : o < 256 = offset_below o (fine_both _ _ (fine_both _ _ both).1).0 in
-    allowed-word (default_place n o) (hex_at 3 line) (omega arith) (omega arith))
+  code : (name : List ℕ) (j : ℕ) {c : Code} → code_wanted name j line ≡ Ok c → c.0 < 4096
+  code name j e = if_ok Digits3 e (codes name j)
 
--- a code has three digits
-fine_code : (name : List ℕ) (j next : ℕ) (line : List ℕ) → is_fine (wants_code name j next line) ≡ true → code_at next line ≤ 0xFFF
-unfolding wants_code
-fine_code name j next line f =
-    omega (arith, code_small true (field next line) (fine_number true 3 3 next line (fine_both (wants_word name j line) (wants_number true 3 3 next line) f).1))
+  small : IfOk (entry_wanted line) Small
+  unfolding entry_wanted
+  small =
+      then_ok Small (code_wanted name_reset 2 line) _ λ reset e.
+      then_ok Small (code_wanted name_dl_up 4 line) _ λ dl_up f.
+      then_ok Small (code_wanted name_flr 6 line) _ λ flr g.
+      then_ok Small (code_wanted name_d3hot 8 line) _ λ d3hot h.
+      then_ok Small (word_wanted name_frs 10 line) _ λ u i.
+      then_ok Small (yes_no_wanted 11 line) _ λ v j.
+      then_ok Small (end_wanted 12 line) _ λ w l.
+      record { reset = code name_reset 2 e; dl_up = code name_dl_up 4 f; flr = code name_flr 6 g; d3hot = code name_d3hot 8 h }
 
-kept_slot : (line table : List ℕ) → Kept table → Kept (enter_slot line table).table
-unfolding enter_slot put_code put_frs why_not_slot why_not_codes
-kept_slot line table k =
-    let why : Reason = why_not_slot line table in
-    let at : (j n : ℕ) → n ≤ 0xFFF → allowed (entry_place (slot_at line) j) n ≡ true = λ j n l. allowed_entry (entry_place (slot_at line) j) n (omega arith) l in
-    let codes : is_fine why ≡ true → is_fine (why_not_codes line) ≡ true = λ e. (fine_both _ _ (fine_both _ _ e).1).0 in
-    kept_put why (entry_place (slot_at line) 4) (one (is_yes 11 line)) _
-    (kept_put why (entry_place (slot_at line) 3) (code_at 9 line) _
-    (kept_put why (entry_place (slot_at line) 2) (code_at 7 line) _
-    (kept_put why (entry_place (slot_at line) 1) (code_at 5 line) _
-    (kept_put why (entry_place (slot_at line) 0) (code_at 3 line) table k
-    (λ e. at 0 (code_at 3 line) (fine_code name_reset 2 3 line (fine_both _ _ (codes e)).0)))
-    (λ e. at 1 (code_at 5 line) (fine_code name_dl_up 4 5 line (fine_both _ _ (fine_both _ _ (codes e)).1).0)))
-    (λ e. at 2 (code_at 7 line) (fine_code name_flr 6 7 line (fine_both _ _ (fine_both _ _ (fine_both _ _ (codes e)).1).1).0)))
-    (λ e. at 3 (code_at 9 line) (fine_code name_d3hot 8 9 line (fine_both _ _ (fine_both _ _ (fine_both _ _ (codes e)).1).1).1)))
-    (λ e. at 4 (one (is_yes 11 line)) (omega (arith, one_most (is_yes 11 line))))
+  kept_slot : IfOk (enter_slot line named) Kept
+  unfolding enter_slot
+  kept_slot =
+      then_ok Kept (number_wanted decimal 1 line) _ λ n e.
+      then_ok Kept (entry_wanted line) _ λ entry f.
+      then_ok Kept (slot_allowed named.slots n) _ λ u g.
+      then_ok Kept (fresh (is_some (get_or named.entries n None))) _ λ v h.
+      record {
+        slots = k.slots;
+        queue = k.queue;
+        bus = k.bus;
+        port = k.port;
+        entries = set_at (λ o. IfSome o Small) named.entries n entry (if_ok Small f small) k.entries;
+        words = k.words;
+      }
 
-kept_either : (t : Bool) (a b : Entered) → Kept a.table → Kept b.table → Kept (cond t a b).table
-kept_either true a b k l = k
-kept_either false a b k l = l
+  abbrev Word : (ℕ × ℕ) → Type 0
+  Word w = w.1 < 4294967296
 
-kept_line : (line table : List ℕ) → Kept table → Kept (enter_line line table).table
-unfolding enter_line
-kept_line line table k =
-    kept_either (no_field 0 line) _ _ k
-    (kept_either (is_fact name_slots line) _ _ (kept-number slots_place false 1 8 1 32 (λ n e. or_last (eqb n not_named) _ e) line table k)
-    (kept_either (is_fact name_queue line) _ _ (kept-number queue_place false 1 8 1 4095 (λ n e. or_last (eqb n not_named) _ e) line table k)
-    (kept_either (is_fact name_bus line) _ _ (kept-number bus_place true 2 2 0 0xFF (λ n e. or_last (eqb n not_named) _ e) line table k)
-    (kept_either (is_fact name_port line) _ _ (kept-number port_place true 4 4 0 0xFFFF (λ n e. or_last (eqb n not_named) _ e) line table k)
-    (kept_either (is_fact name_slot line) _ _ (kept_slot line table k)
-    (kept_either (is_fact name_word line) _ _ (kept_word line table k) k))))))
+  word : IfOk (place_wanted line named.slots) Word
+  unfolding place_wanted
+  word =
+      then_ok Word (number_wanted decimal 1 line) _ λ n e.
+      then_ok Word (number_wanted hex 2 line) _ λ o f.
+      then_ok Word (number_wanted hex 3 line) _ λ v g.
+      then_ok Word (end_wanted 4 line) _ λ t h.
+      then_ok Word (slot_allowed named.slots n) _ λ u i.
+      then_ok Word (offset_allowed o) _ λ w j. number_fits hex 3 line g
+
+  kept_word : IfOk (enter_word line named) Kept
+  unfolding enter_word
+  kept_word =
+      then_ok Kept (place_wanted line named.slots) _ λ w e.
+      then_ok Kept (fresh (is_some (get_or named.words w.0 None))) _ λ u f.
+      record {
+        slots = k.slots;
+        queue = k.queue;
+        bus = k.bus;
+        port = k.port;
+        entries = k.entries;
+        words = set_at (λ o. IfSome o (λ n. n < 4294967296)) named.words w.0 w.1 (if_ok Word e word) k.words;
+      }
+
+  either : (t : Bool) (a b : Result Named Reason) → IfOk a Kept → IfOk b Kept → IfOk (cond t a b) Kept
+  either true a b p q = p
+  either false a b p q = q
+
+  pub kept_line : IfOk (enter_line line named) Kept
+  unfolding enter_line
+  kept_line =
+      either (no_field 0 line) _ _ k
+      (either (is_fact name_slots line) _ _ kept_slots
+      (either (is_fact name_queue line) _ _ kept_queue
+      (either (is_fact name_bus line) _ _ kept_bus
+      (either (is_fact name_port line) _ _ kept_port
+      (either (is_fact name_slot line) _ _ kept_slot
+      (either (is_fact name_word line) _ _ kept_word tt))))))
 
 -- ---- all lines
 
-either_told : (t : Bool) (a b : Told) → Kept a.table → Kept b.table → Kept (cond t a b).table
-either_told true a b k l = k
-either_told false a b k l = l
+abbrev pub KeptTold : Told → Type 0
+KeptTold t = Kept t.named
 
-pub kept_lines : (lines : List (List ℕ)) (n : ℕ) (table : List ℕ) → Kept table → Kept (read_lines n lines table).table
+pub kept_lines : (lines : List (List ℕ)) (n : ℕ) (named : Named) → Kept named → IfOk (read_lines n lines named) KeptTold
 unfolding read_lines
-kept_lines [] n table k = k
-kept_lines (line ∷ lines) n table k =
-    let e : Entered = enter_line line table in
-    let after : Kept e.table = kept_line line table k in
-    either_told (is_fine e.reason) _ _ (kept_lines lines (suc n) e.table after) after
-
-blank-place : (place : ℕ) (t : Bool) → ltb place places ≡ t → allowed place (get_or blank_table place 0) ≡ true
-blank-place place true e = ap (allowed place) (get_or-replicate places place not_named 0 (ltb-true place places e))
-blank-place place false e =
-    let past : 2212 ≤ place = ltb-false place places e in
-    let n : length blank_table ≤ place = omega (arith, length-replicate places not_named) in
-    ap (allowed place) (get_or-eq_default blank_table 0 n) ∙ allowed_entry place 0 (omega arith) (omega arith)
-
-pub kept-blank : Kept blank_table
-kept-blank place = blank-place place (ltb place places) refl
-
--- ---- what is kept, at the numbers that were named
-
-pub within : (x low high : ℕ) (t : Bool) → eqb x not_named ≡ t → t ≡ false → (t || leb low x && leb x high) ≡ true → (low ≤ x) × (x ≤ high)
-within x low high true e n h = absurd (false≢true (sym n))
-within x low high false e n h =
-    (leb-true low x (both_left (leb low x) (leb x high) h), leb-true x high (both_right (leb low x) (leb x high) h))
-
--- the remainder of what was named is what was named, or 0 where nothing was
-abbrev pub or_zero : ℕ → ℕ
-or_zero x = cond (eqb x not_named) 0 x
-
-whole : (x low high bound : ℕ) → 0 < bound → high < bound → not_named % bound ≡ 0 → (t : Bool) → eqb x not_named ≡ t → (t || leb low x && leb x high) ≡ true → x % bound ≡ cond t 0 x
-whole x low high bound z l n true e h = ap (λ (m : ℕ). m % bound) (eqb-true x not_named e) ∙ n
-whole x low high bound z l n false e h = mod-eq_of_lt (lt_of_le_of_lt (leb-true x high (both_right (leb low x) (leb x high) h)) l)
-
-pub whole_word : (table : List ℕ) → Kept table → (place : ℕ) → place < 2048 → named_below 4294967296 place table ≡ or_zero (named place table)
-whole_word table k place h =
-    let x : ℕ = named place table in
-    let low : allowed place x ≡ true = k place in
-    whole x 0 0xFFFFFFFF 4294967296 (omega arith) (omega arith) refl (eqb x not_named) refl (simp (lt-ltb place 2048 h) at low)
-
-pub whole_code : (table : List ℕ) → Kept table → (n j : ℕ) → named_below 0x1000 (entry_place n j) table ≡ or_zero (named (entry_place n j) table)
-whole_code table k n j =
-    let place : ℕ = entry_place n j in
-    let x : ℕ = named place table in
-    let past : ltb place 2048 ≡ false = le-ltb place 2048 (omega arith) in
-    let above : ltb 2051 place ≡ true = lt-ltb 2051 place (omega arith) in
-    let low : allowed place x ≡ true = k place in
-    let more : ltb 2049 place ≡ true = lt-ltb 2049 place (omega arith) in
-    whole x 0 0xFFF 0x1000 (omega arith) (omega arith) refl (eqb x not_named) refl (simp (past, above, more) at low)
+kept_lines [] n named k = k
+kept_lines (line ∷ lines) n named k =
+    then_ok KeptTold (at_line (suc n) (enter_line line named)) _ λ after e.
+    kept_lines lines (suc n) after (if_ok Kept (at_line_ok (suc n) (enter_line line named) e) (kept_line line named k))

@@ -1,4 +1,4 @@
-pub mod Examples
 pub mod Comments
 pub mod Kept
 pub mod Laws
+pub mod Examples

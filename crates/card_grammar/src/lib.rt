@@ -1,12 +1,12 @@
 // A card's text: the types of a reading, and in specs/ the grammar: which bytes are a card, and which card.
 #![tactic(auto)]
 
-use readiness::Setup;
+use readiness::{Setup, Slot};
+use text_fields::Numeral;
 
-// Why a text is refused; Fine where it isn't.
+// Why a line or a text is refused.
 #[derive(Clone, Copy)]
 pub enum Reason {
-    Fine,
     // A word other than those that the grammar has there.
     UnknownWord,
     // No number, or one with too few or too many digits.
@@ -27,13 +27,37 @@ pub enum Reason {
     NoRoom,
 }
 
-// A reading: whether the text is a card; how many lines were read, the last of which is refused where one is; the reason; and
-// the card, as far as it was read.
+// A fact with one number: how the number is written, and its limits.
 #[derive(Clone, Copy)]
-pub struct CardRead {
-    pub ok: bool,
-    pub line: usize,
-    pub reason: Reason,
+pub struct Fact {
+    pub form: Numeral,
+    pub low: u32,
+    pub high: u32,
+}
+
+// What lines have named: slots, queue, bus and port, the slots' entries, and 64 default words for each of 32 slots.
+#[derive(Clone, Copy)]
+pub struct Named {
+    pub slots: Option<usize>,
+    pub queue: Option<usize>,
+    pub bus: Option<u8>,
+    pub port: Option<u16>,
+    pub entries: [Option<Slot>; 32],
+    pub words: [Option<u32>; 2048],
+}
+
+// A card: how many lines its text has, its set-up, and how many cells its queue has.
+#[derive(Clone, Copy)]
+pub struct Card {
+    pub lines: usize,
     pub setup: Setup,
     pub queue: usize,
+}
+
+// Why a text is no card: the reason, and the line that is refused, counted from 1, or the last line where the text as a whole is. It
+// gives no set-up.
+#[derive(Clone, Copy)]
+pub struct CardError {
+    pub line: usize,
+    pub reason: Reason,
 }

@@ -9,10 +9,12 @@ use lib.Dec.{ltb}
 use lib.ListN.{length, get_or, take, drop, drop_of_length-le}
 use lib.Seq.{drop-cons, drop-drop}
 use borrow.Author.Tests.{ltb-true, ltb-false}
-use Rattle.card_grammar.specs.declared.Reason.{Reason}
-use Rattle.card_grammar.specs.declared.Reason.TheVariants.{Fine}
+use Rattle.std.specs.Prelude.{Result, Ok, Err}
 use Rattle.text_fields.specs.Text.{part, in_line, onto, lines_of, run, run_end}
-use Rattle.card_grammar.specs.Grammar.{is_fine, Entered, entered, enter_line, Told, told, read_lines}
+use Rattle.card_grammar.specs.declared.Reason.{Reason}
+use Rattle.card_grammar.specs.declared.Named.{Named}
+use Rattle.card_grammar.specs.declared.CardError.{CardError}
+use Rattle.card_grammar.specs.Grammar.{and_then, entered, enter_line, Told, at_line, read_lines}
 
 -- ---- the first line, and the lines after it
 
@@ -70,21 +72,24 @@ module _ (text : List ℕ) (at : ℕ) (h : at < length text) where
 
 -- ---- one line of several
 
-module _ (n : ℕ) (line : List ℕ) (lines : List (List ℕ)) (table : List ℕ) {why : Reason} {after : List ℕ} (e : entered why after ≡ enter_line line table) where
-  step : Entered → Told
-  step x = cond (is_fine x.reason) (read_lines (suc n) lines x.table) (told (suc n) x.reason x.table)
+module _ (n : ℕ) (line : List ℕ) (lines : List (List ℕ)) (named : Named) where
+  step : Result Named Reason → Result Told CardError
+  step r = and_then (at_line (suc n) r) (λ (after : Named). read_lines (suc n) lines after)
 
-  read_step : read_lines n (line ∷ lines) table ≡ cond (is_fine why) (read_lines (suc n) lines after) (told (suc n) why after)
+  -- a line that is entered
+  pub line_entered : {r : Result (Unit {0}) Reason} {u : Unit {0}} (after : Named) → entered r after ≡ enter_line line named → r ≡ Ok u
+      → read_lines n (line ∷ lines) named ≡ read_lines (n + 1) lines after
   unfolding read_lines step
-  read_step = sym (ap step e)
+  line_entered after e f = rw add-one (ap step (sym e) ∙ ap (λ (r : Result (Unit {0}) Reason). step (entered r after)) f)
 
-  pub read_fine : is_fine why ≡ true → read_lines n (line ∷ lines) table ≡ read_lines (n + 1) lines after
-  read_fine t = rw add-one (read_step ∙ ap (λ (x : Bool). cond x (read_lines (suc n) lines after) (told (suc n) why after)) t)
-
-  pub read_refused : is_fine why ≡ false → read_lines n (line ∷ lines) table ≡ told (n + 1) why after
-  read_refused t = rw add-one (read_step ∙ ap (λ (x : Bool). cond x (read_lines (suc n) lines after) (told (suc n) why after)) t)
+  -- one that is refused
+  pub line_refused : {r : Result (Unit {0}) Reason} {why : Reason} (after : Named) → entered r after ≡ enter_line line named → r ≡ Err why
+      → read_lines n (line ∷ lines) named ≡ Err (record { line = n + 1; reason = why })
+  unfolding read_lines step
+  line_refused after e f = rw add-one (ap step (sym e) ∙ ap (λ (r : Result (Unit {0}) Reason). step (entered r after)) f)
 
 -- no line is left
-pub read_all : (n : ℕ) (text table : List ℕ) (at : ℕ) → length text ≤ at → read_lines n (lines_of (drop at text)) table ≡ told n Fine table
+pub lines_end : (n : ℕ) (text : List ℕ) (named : Named) (at : ℕ) → length text ≤ at
+    → read_lines n (lines_of (drop at text)) named ≡ Ok (record { lines = n; named = named })
 unfolding read_lines lines_of
-read_all n text table at h = ap (λ (l : List ℕ). read_lines n (lines_of l) table) (drop_of_length-le text h)
+lines_end n text named at h = ap (λ (l : List ℕ). read_lines n (lines_of l) named) (drop_of_length-le text h)

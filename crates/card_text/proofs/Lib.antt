@@ -1,2 +1,2 @@
 pub mod FirstLine
-pub mod Reading
+pub mod Maps

@@ -1,111 +1,157 @@
-// Facts with a name and a number: slots, queue, bus, port; and default words.
-ghost use Rattle.std.specs.Prelude.{◌≡◌};
-ghost use Rattle.card_grammar.specs.Grammar.{default_place, slot_at, hex_at, entered, why_not_number, enter_number, offset_allowed, word_allowed, why_not_word, enter_word};
+// What a line names.
+ghost use Rattle.std.specs.Prelude.{◌≡◌, ◌<◌};
+ghost use Rattle.std.specs.Result.{IfOk};
+ghost use Rattle.card_grammar.specs.Grammar.{entered, enter_slots, enter_queue, enter_bus, enter_port, enter_slot, place_wanted, enter_word, enter_line};
 
-use crate::reasons::{first, in_range, unless, wants_end, wants_number};
-use crate::table::{not_twice, put, slot_allowed};
-use card_grammar::Reason;
-use text_fields::number_at;
+use crate::wanted::{
+    end_wanted, entry_wanted, fresh, number_fact, number_wanted, offset_allowed, slot_allowed,
+};
+use card_grammar::{Fact, Named, Reason};
+use text_fields::{Base, Numeral, field_is, no_field};
 
-// A slot's number.
-pub fn slot_at(line: &[u8]) -> usize
-    ensures { result ≡ slot_at line.now }
+// Decimal and hex numbers of 1 to 8 digits.
+const DECIMAL: Numeral = Numeral {
+    base: Base::Decimal,
+    least: 1,
+    most: 8,
+};
+
+const HEX: Numeral = Numeral {
+    base: Base::Hex,
+    least: 1,
+    most: 8,
+};
+
+// The facts with one number.
+const SLOTS: Fact = Fact {
+    form: DECIMAL,
+    low: 1,
+    high: 32,
+};
+
+const QUEUE: Fact = Fact {
+    form: DECIMAL,
+    low: 1,
+    high: 4095,
+};
+
+const BUS: Fact = Fact {
+    form: Numeral {
+        base: Base::Hex,
+        least: 2,
+        most: 2,
+    },
+    low: 0,
+    high: 0xFF,
+};
+
+const PORT: Fact = Fact {
+    form: Numeral {
+        base: Base::Hex,
+        least: 4,
+        most: 4,
+    },
+    low: 0,
+    high: 0xFFFF,
+};
+
+#[tactic(auto, unfolding(card_grammar::specs::Grammar::enter_slots))]
+fn enter_slots(line: &[u8], named: &mut Named) -> Result<(), Reason>
+    ensures { entered result named.new ≡ enter_slots line.now named.old }
 {
-    number_at(line, 1, false, 1, 8)
+    named.slots = Some(number_fact(line, SLOTS, named.slots.is_some())? as usize);
+    Ok(())
 }
 
-// Why a line with a name and a number is refused.
-fn why_not_number(
-    line: &[u8],
-    table: &[usize],
-    place: usize,
-    hex: bool,
-    least: usize,
-    most: usize,
-    low: usize,
-    high: usize,
-) -> Reason
-    ensures { result ≡ why_not_number place hex least most low high line.now table.now }
+#[tactic(auto, unfolding(card_grammar::specs::Grammar::enter_queue))]
+fn enter_queue(line: &[u8], named: &mut Named) -> Result<(), Reason>
+    ensures { entered result named.new ≡ enter_queue line.now named.old }
 {
-    let range = in_range(low, high, number_at(line, 1, hex, least, most));
-    let twice = not_twice(table, place);
-    first(
-        wants_number(line, 1, hex, least, most),
-        first(wants_end(line, 2), first(range, twice)),
-    )
+    named.queue = Some(number_fact(line, QUEUE, named.queue.is_some())? as usize);
+    Ok(())
 }
 
-// A line with a name and a number.
-pub fn enter_number(
-    line: &[u8],
-    table: &mut [usize],
-    place: usize,
-    hex: bool,
-    least: usize,
-    most: usize,
-    low: usize,
-    high: usize,
-) -> Reason
-    ensures { entered result table.new ≡ enter_number place hex least most low high line.now table.old }
+#[tactic(auto, unfolding(card_grammar::specs::Grammar::enter_bus))]
+fn enter_bus(line: &[u8], named: &mut Named) -> Result<(), Reason>
+    ensures { entered result named.new ≡ enter_bus line.now named.old }
 {
-    let why = why_not_number(line, &*table, place, hex, least, most, low, high);
-    let n = number_at(line, 1, hex, least, most);
-    put(why, &mut *table, place, n);
-    why
+    named.bus = Some(number_fact(line, BUS, named.bus.is_some())? as u8);
+    Ok(())
 }
 
-// A hex number of 1 to 8 digits.
-fn hex_at(line: &[u8], k: usize) -> usize
-    ensures { result ≡ hex_at k line.now }
+#[tactic(auto, unfolding(card_grammar::specs::Grammar::enter_port))]
+fn enter_port(line: &[u8], named: &mut Named) -> Result<(), Reason>
+    ensures { entered result named.new ≡ enter_port line.now named.old }
 {
-    number_at(line, k, true, 1, 8)
+    named.port = Some(number_fact(line, PORT, named.port.is_some())? as u16);
+    Ok(())
 }
 
-// A byte offset of a register is a multiple of 4 below 100h.
-fn offset_allowed(offset: usize) -> Reason
-    ensures { result ≡ offset_allowed offset }
+// slot N reset HHH dlup HHH flr HHH d3hot HHH frs yes|no
+#[tactic(auto, unfolding(card_grammar::specs::Grammar::enter_slot))]
+fn enter_slot(line: &[u8], named: &mut Named) -> Result<(), Reason>
+    ensures { entered result named.new ≡ enter_slot line.now named.old }
 {
-    unless((offset < 0x100) & (offset % 4 == 0), Reason::OutOfRange)
+    let n = number_wanted(line, 1, DECIMAL)?;
+    let entry = entry_wanted(line)?;
+    slot_allowed(named.slots, n)?;
+    let n = n as usize;
+    fresh(named.entries[n].is_some())?;
+    named.entries[n] = Some(entry);
+    Ok(())
 }
 
-// The place of the default word that the line names.
-fn default_place(line: &[u8]) -> usize
-    ensures { result ≡ default_place (slot_at line.now) (hex_at 2 line.now) }
+// The place and the value of a default word: N OFFSET VALUE.
+#[tactic(auto, unfolding(card_grammar::specs::Grammar::place_wanted))]
+fn place_wanted(line: &[u8], slots: Option<usize>) -> Result<(usize, u32), Reason>
+    ensures value { result ≡ place_wanted line.now slots }
+    ensures below { IfOk result (λ w. w.0 < 2048) }
 {
-    let n = slot_at(line);
-    let offset = hex_at(line, 2);
-    n * 64 + offset / 4
-}
-
-// Why the word that a line names is refused.
-fn word_allowed(line: &[u8], table: &[usize]) -> Reason
-    ensures { result ≡ word_allowed line.now table.now }
-{
-    let twice = not_twice(table, default_place(line));
-    let offset = offset_allowed(hex_at(line, 2));
-    let slot = slot_allowed(table, slot_at(line));
-    first(slot, first(offset, twice))
-}
-
-// Why `word N OFFSET VALUE` is refused.
-fn why_not_word(line: &[u8], table: &[usize]) -> Reason
-    ensures { result ≡ why_not_word line.now table.now }
-{
-    let slot = wants_number(line, 1, false, 1, 8);
-    let offset = wants_number(line, 2, true, 1, 8);
-    let value = wants_number(line, 3, true, 1, 8);
-    let end = wants_end(line, 4);
-    let word = word_allowed(line, table);
-    first(slot, first(offset, first(value, first(end, word))))
+    let n = number_wanted(line, 1, DECIMAL)?;
+    let offset = number_wanted(line, 2, HEX)?;
+    let value = number_wanted(line, 3, HEX)?;
+    end_wanted(line, 4)?;
+    slot_allowed(slots, n)?;
+    offset_allowed(offset)?;
+    Ok((n as usize * 64 + offset as usize / 4, value))
 }
 
 // word N OFFSET VALUE
-pub fn enter_word(line: &[u8], table: &mut [usize]) -> Reason
-    ensures { entered result table.new ≡ enter_word line.now table.old }
+#[tactic(auto, unfolding(card_grammar::specs::Grammar::enter_word))]
+fn enter_word(line: &[u8], named: &mut Named) -> Result<(), Reason>
+    ensures { entered result named.new ≡ enter_word line.now named.old }
 {
-    let why = why_not_word(line, &*table);
-    let place = default_place(line);
-    let value = hex_at(line, 3);
-    put(why, &mut *table, place, value);
-    why
+    let (place, value) = place_wanted(line, named.slots)?;
+    fresh(named.words[place].is_some())?;
+    named.words[place] = Some(value);
+    Ok(())
+}
+
+// One line: nothing but blanks and a comment, or a fact.
+#[tactic(auto, unfolding(card_grammar::specs::Grammar::enter_line))]
+pub fn enter_line(line: &[u8], named: &mut Named) -> Result<(), Reason>
+    ensures { entered result named.new ≡ enter_line line.now named.old }
+{
+    if no_field(line, 0) {
+        return Ok(());
+    }
+    if field_is(line, 0, b"slots") {
+        return enter_slots(line, named);
+    }
+    if field_is(line, 0, b"queue") {
+        return enter_queue(line, named);
+    }
+    if field_is(line, 0, b"bus") {
+        return enter_bus(line, named);
+    }
+    if field_is(line, 0, b"port") {
+        return enter_port(line, named);
+    }
+    if field_is(line, 0, b"slot") {
+        return enter_slot(line, named);
+    }
+    if field_is(line, 0, b"word") {
+        return enter_word(line, named);
+    }
+    Err(Reason::UnknownWord)
 }

@@ -1,126 +1,87 @@
 // The reader of a card's text: which bytes are a card, and which card; the grammar is in card_grammar.
 #![tactic(auto)]
 
-mod reasons; // why a line is refused
-mod table; // what was named
-mod facts; // facts with a number
-mod slots; // a slot's fact
+mod wanted; // what a line's fields must be
+mod facts; // what a line names
 mod lines; // the lines of a text
 
-ghost use Rattle.std.specs.Prelude.{◌≡◌};
-ghost use Rattle.card_grammar.specs.Card.{named_below, code_from, slot_from, slots_from, setup_from, missing as missing_of, room as room_of, stored_words, outcome, card_of};
+ghost use Rattle.std.specs.Prelude.{◌≡◌, length};
+ghost use Rattle.card_grammar.specs.Card.{nothing_named, entries_from, words_from, card_from, outcome, card_of};
 
-use card_grammar::{CardRead, Reason};
+use card_grammar::{Card, CardError, Named, Reason};
 use lines::read_lines;
-use readiness::{Setup, Slot};
-use reasons::{fine, first, unless};
-use table::{BUS, NOT_NAMED, PORT, QUEUE, SLOTS, must_be_named, named_at};
-use times::Code;
+use readiness::{Setup, Slot, blank_slot};
 
-// What was named at a place, as a code; 000 where nothing was.
-fn code_from(table: &[usize], place: usize) -> Code
-    ensures { result ≡ code_from place table.now }
+fn nothing_named() -> Named
+    ensures { result ≡ nothing_named }
 {
-    let n = named_at(table, place) % 0x1000;
-    times::code_of(n as u16)
-}
-
-// The entry of slot n.
-fn slot_from(table: &[usize], n: u8) -> Slot
-    ensures { result ≡ slot_from table.now n }
-{
-    let at = 2052 + n as usize * 5;
-    Slot {
-        reset: code_from(table, at),
-        dl_up: code_from(table, at + 1),
-        flr: code_from(table, at + 2),
-        d3hot: code_from(table, at + 3),
-        sends_frs: named_at(table, at + 4) == 1,
+    Named {
+        slots: None,
+        queue: None,
+        bus: None,
+        port: None,
+        entries: [None; 32],
+        words: [None; 2048],
     }
 }
 
-// The entries of 32 slots.
-fn slots_from(table: &[usize]) -> [Slot; 32]
-    ensures { result ≡ slots_from table.now 32 }
+// A slot not named has codes 000 and no FRS.
+#[tactic(auto, unfolding(card_grammar::specs::Card::entries_from))]
+fn entries_from(entries: &[Option<Slot>; 32]) -> [Slot; 32]
+    ensures { result ≡ entries_from entries.now }
 {
-    let mut entries = [slot_from(table, 0); 32];
-    let mut n: u8 = 0;
-    while n < 32 {
-        let entry = slot_from(table, n);
-        entries[n as usize] = entry;
-        n += 1;
+    entries.map(|entry| entry.unwrap_or(blank_slot()))
+}
+
+// A word not named is 0.
+#[tactic(auto, unfolding(card_grammar::specs::Card::words_from))]
+fn words_from(words: &[Option<u32>; 2048]) -> [u32; 2048]
+    ensures value { result ≡ words_from words.now }
+    ensures long { length result ≡ 2048 }
+{
+    words.map(|word| word.unwrap_or(0))
+}
+
+// The card that so many lines have named, where so many words are lent for the default words.
+#[tactic(auto, unfolding(card_grammar::specs::Card::card_from))]
+fn card_from(lines: usize, named: &Named, lent: usize) -> Result<Card, Reason>
+    ensures { result ≡ card_from lines named.now lent }
+{
+    let slots = named.slots.ok_or(Reason::Missing)?;
+    let queue = named.queue.ok_or(Reason::Missing)?;
+    let bus = named.bus.ok_or(Reason::Missing)?;
+    let port_id = named.port.ok_or(Reason::Missing)?;
+    if lent != 2048 {
+        return Err(Reason::NoRoom);
     }
-    entries
-}
-
-// The set-up that a table names.
-fn setup_from(table: &[usize]) -> Setup
-    ensures { result ≡ setup_from table.now }
-{
-    let bus = named_at(table, BUS) % 0x100;
-    let port = named_at(table, PORT) % 0x10000;
-    Setup {
-        slots: named_at(table, SLOTS) % 64,
-        entries: slots_from(table),
-        bus: bus as u8,
-        port_id: port as u16,
-    }
-}
-
-// The slots, queue, bus and port must be named.
-fn missing(table: &[usize]) -> Reason
-    ensures { result ≡ missing_of table.now }
-{
-    let slots = must_be_named(table, SLOTS);
-    let queue = must_be_named(table, QUEUE);
-    let bus = must_be_named(table, BUS);
-    let port = must_be_named(table, PORT);
-    first(slots, first(queue, first(bus, port)))
-}
-
-// The words lent must be 2,048.
-fn room(words: usize) -> Reason
-    ensures { result ≡ room_of words }
-{
-    unless(words == 2048, Reason::NoRoom)
-}
-
-// What was named at a place, as a word; 0 where nothing was.
-fn word_from(table: &[usize], place: usize) -> u32
-    ensures { result ≡ named_below 4294967296 place table.now }
-{
-    let n = named_at(table, place) % 4294967296;
-    n as u32
-}
-
-// The default words, unless the text is refused.
-fn store_words(why: Reason, table: &[usize], words: &mut [u32])
-    ensures { words.new ≡ stored_words why table.now words.old }
-{
-    if fine(why) {
-        let n = words.len();
-        let mut i: usize = 0;
-        while i < n {
-            words[i] = word_from(table, i);
-            i += 1;
-        }
-    }
+    let entries = entries_from(&named.entries);
+    Ok(Card {
+        lines,
+        setup: Setup {
+            slots,
+            entries,
+            bus,
+            port_id,
+        },
+        queue,
+    })
 }
 
 // Reads a card's text. The words lent, 2,048 of them, take the default words where the text is a card; else they stay.
-pub fn read_card(text: &[u8], words: &mut [u32]) -> CardRead
+#[tactic(auto, unfolding(card_grammar::specs::Card::card_of))]
+pub fn read_card(text: &[u8], words: &mut [u32]) -> Result<Card, CardError>
     ensures { outcome result words.new ≡ card_of text.now words.old }
 {
-    let mut table: [usize; 2212] = [NOT_NAMED; 2212];
-    let told = read_lines(text, &mut table);
-    let refused = told.reason;
-    let why = first(refused, first(missing(&table), room(words.len())));
-    store_words(why, &table, &mut *words);
-    CardRead {
-        ok: fine(why),
-        line: told.line,
-        reason: why,
-        setup: setup_from(&table),
-        queue: named_at(&table, QUEUE) % 4096,
+    let mut named = nothing_named();
+    let lines = read_lines(text, &mut named)?;
+    match card_from(lines, &named, words.len()) {
+        Ok(card) => {
+            words.copy_from_slice(&words_from(&named.words));
+            Ok(card)
+        }
+        Err(reason) => Err(CardError {
+            line: lines,
+            reason,
+        }),
     }
 }

@@ -1,63 +1,66 @@
 // Stamps, differences and advances in words, each number with its unit.
+// Kept in this file: a match on the index of an advance, which is 0 or 1: there are at most two.
+#![tactic(auto, using(text_line::proofs::Putting::putting), unfolding(text_line::specs::Text::text_if, capture_lines::specs::Stamps::ten_of, capture_lines::specs::Stamps::stamp_column, capture_lines::specs::Stamps::stamp_text, capture_lines::specs::Stamps::clock_column, capture_lines::specs::Stamps::difference_text, capture_lines::specs::Stamps::span_text, capture_lines::specs::Stamps::advance_count, capture_lines::specs::Stamps::advance_at, capture_lines::specs::Stamps::part_text, capture_lines::specs::Stamps::advance_text))]
+
 ghost use Rattle.std.specs.Prelude.{◌≡◌, length, get_or};
-ghost use Rattle.text_line.specs.Line.{Put};
+ghost use Rattle.text_line.specs.Page.{put};
 ghost use Rattle.capture.specs.Advances.{advances};
 ghost use Rattle.capture_lines.specs.Stamps.{ten_of, stamp_column, stamp_text, clock_column, difference_text, span_text, advance_count, advance_at, part_text, advance_text};
 
 use bits::u64_of_u32;
-use text_line::text::{put_column, put_decimal, put_either, put_if, put_named, put_text};
+use text_line::Page;
 use ticks::{Stamp, Ticks, in_nanos, stamp_number, ticks_number};
 use times::{Nanos, nanos_number};
 
 // ---- Stamps and differences
 
 // A number in a column of ten.
-fn put_ten(line: &mut [u8], at: usize, n: u64) -> usize
-    ensures { Put (ten_of n) at line.old result line.new }
+fn put_ten(page: &mut Page, n: u64)
+    ensures { page.new ≡ put (ten_of n) page.old }
 {
-    let a = put_if(&mut *line, at, n < 1000000000, b" ");
-    let b = put_if(&mut *line, a, n < 100000000, b" ");
-    put_column(line, b, n)
+    page.put_if(n < 1000000000, b" ");
+    page.put_if(n < 100000000, b" ");
+    page.put_column(n);
 }
 
-pub fn put_stamp_column(line: &mut [u8], at: usize, stamp: Stamp) -> usize
-    ensures { Put (stamp_column stamp) at line.old result line.new }
+pub fn put_stamp_column(page: &mut Page, stamp: Stamp)
+    ensures { page.new ≡ put (stamp_column stamp) page.old }
 {
-    let next = put_ten(&mut *line, at, u64_of_u32(stamp_number(stamp)));
-    put_text(line, next, b" ticks")
+    put_ten(page, u64_of_u32(stamp_number(stamp)));
+    page.put_text(b" ticks");
 }
 
-pub fn put_stamp(line: &mut [u8], at: usize, stamp: Stamp) -> usize
-    ensures { Put (stamp_text stamp) at line.old result line.new }
+pub fn put_stamp(page: &mut Page, stamp: Stamp)
+    ensures { page.new ≡ put (stamp_text stamp) page.old }
 {
-    let next = put_named(&mut *line, at, b"stamp ", u64_of_u32(stamp_number(stamp)));
-    put_text(line, next, b" ticks")
+    page.put_named(b"stamp ", u64_of_u32(stamp_number(stamp)));
+    page.put_text(b" ticks");
 }
 
-pub fn put_clock_column(line: &mut [u8], at: usize, clock: Nanos) -> usize
-    ensures { Put (clock_column clock) at line.old result line.new }
+pub fn put_clock_column(page: &mut Page, clock: Nanos)
+    ensures { page.new ≡ put (clock_column clock) page.old }
 {
-    let next = put_ten(&mut *line, at, nanos_number(clock));
-    put_text(line, next, b" ns")
+    put_ten(page, nanos_number(clock));
+    page.put_text(b" ns");
 }
 
 // A difference in ticks, and its time.
-pub fn put_difference(line: &mut [u8], at: usize, d: Ticks) -> usize
-    ensures { Put (difference_text d) at line.old result line.new }
+pub fn put_difference(page: &mut Page, d: Ticks)
+    ensures { page.new ≡ put (difference_text d) page.old }
 {
-    let a = put_ten(&mut *line, at, u64_of_u32(ticks_number(d)));
-    let b = put_text(&mut *line, a, b" ticks = ");
-    let c = put_ten(&mut *line, b, nanos_number(in_nanos(d)));
-    put_text(line, c, b" ns")
+    put_ten(page, u64_of_u32(ticks_number(d)));
+    page.put_text(b" ticks = ");
+    put_ten(page, nanos_number(in_nanos(d)));
+    page.put_text(b" ns");
 }
 
 // The same within a sentence.
-pub fn put_span(line: &mut [u8], at: usize, d: Ticks) -> usize
-    ensures { Put (span_text d) at line.old result line.new }
+pub fn put_span(page: &mut Page, d: Ticks)
+    ensures { page.new ≡ put (span_text d) page.old }
 {
-    let a = put_decimal(&mut *line, at, u64_of_u32(ticks_number(d)));
-    let b = put_named(&mut *line, a, b" ticks (", nanos_number(in_nanos(d)));
-    put_text(line, b, b" ns)")
+    page.put_decimal(u64_of_u32(ticks_number(d)));
+    page.put_named(b" ticks (", nanos_number(in_nanos(d)));
+    page.put_text(b" ns)");
 }
 
 // ---- Advances
@@ -107,22 +110,21 @@ pub fn advance_at(d: Ticks, k: usize) -> Nanos
 }
 
 // Which advance it is, where there are two.
-fn put_part(line: &mut [u8], at: usize, count: usize, k: usize) -> usize
-    ensures { Put (part_text count k) at line.old result line.new }
+fn put_part(page: &mut Page, count: usize, k: usize)
+    ensures { page.new ≡ put (part_text count k) page.old }
 {
-    if count <= 1 {
-        return at;
+    if count > 1 {
+        page.put_either(k == 0, b"first part of ", b"rest of ");
     }
-    put_either(line, at, k == 0, b"first part of ", b"rest of ")
 }
 
 // An advance of a difference: its time, and the ticks that it comes from.
-pub fn put_advance(line: &mut [u8], at: usize, d: Ticks, k: usize) -> usize
-    ensures { Put (advance_text d k) at line.old result line.new }
+pub fn put_advance(page: &mut Page, d: Ticks, k: usize)
+    ensures { page.new ≡ put (advance_text d k) page.old }
 {
-    let a = put_named(&mut *line, at, b"advance ", nanos_number(advance_at(d, k)));
-    let b = put_text(&mut *line, a, b" ns (");
-    let c = put_part(&mut *line, b, advance_count(d), k);
-    let e = put_decimal(&mut *line, c, u64_of_u32(ticks_number(d)));
-    put_text(line, e, b" ticks)")
+    page.put_named(b"advance ", nanos_number(advance_at(d, k)));
+    page.put_text(b" ns (");
+    put_part(page, advance_count(d), k);
+    page.put_decimal(u64_of_u32(ticks_number(d)));
+    page.put_text(b" ticks)");
 }

@@ -1,10 +1,10 @@
 -- The lateness report in words, as antt computes it.
+use Rattle.times.specs.declared.Nanos.{Nanos}
+use Rattle.std.specs.Prelude.{Option, None, Some}
 use mathlib.Core.Path.{◌≡◌, refl}
 use Prim.Native.Nat.{ℕ}
 use lib.IntN.{pos, negsuc}
 use Rattle.bits.specs.Text.{chars}
-use Rattle.readiness.specs.declared.Moment.{Moment}
-use Rattle.readiness.specs.declared.Moment.TheVariants.{Never, At}
 use Rattle.text_line.specs.Text.{glyph_of, decimal_from, three_of, grouped_from, text_if}
 use Rattle.lateness.specs.Lateness.{within, apart, lateness_of}
 use Rattle.describe_times.specs.Times.{nanos_text}
@@ -15,8 +15,8 @@ use Rattle.seen_grammar.specs.declared.SeenRefusal.TheVariants.{NamedBefore}
 use Rattle.describe_lateness.specs.Refusals.{reason_text, file_text}
 use Rattle.describe_lateness.specs.Csv.{moment_csv, difference_csv, verdict_csv, times_csv, end_csv, row_csv}
 
-abbrev at : ℕ → Moment
-at t = At (record { 0 = t })
+abbrev at : ℕ → Option Nanos
+at t = Some (record { 0 = t })
 
 late_row : row_text 3 (at 2000000) (at 2150000) ≡ chars "slot  3  bench     2,000,000 ns  seen     2,150,000 ns  +150,000 ns  late"
 unfolding row_text slot_text bench_text seen_text column_text margin_text group_margin note_text within_text difference_text sign_text verdict_text nanos_text lateness_of apart within grouped_from decimal_from three_of glyph_of text_if
@@ -30,11 +30,11 @@ on_time_row : row_text 0 (at 5000) (at 5000) ≡ chars "slot  0  bench         5
 unfolding row_text slot_text bench_text seen_text column_text margin_text group_margin note_text within_text difference_text sign_text verdict_text nanos_text lateness_of apart within grouped_from decimal_from three_of glyph_of text_if
 on_time_row = refl
 
-not_made_ready : row_text 4 Never (at 5000) ≡ chars "slot  4  bench not made Ready  seen         5,000 ns  no difference: the replay did not make it Ready"
+not_made_ready : row_text 4 None (at 5000) ≡ chars "slot  4  bench not made Ready  seen         5,000 ns  no difference: the replay did not make it Ready"
 unfolding row_text slot_text bench_text seen_text column_text margin_text group_margin note_text missing_text nanos_text lateness_of grouped_from decimal_from three_of glyph_of text_if
 not_made_ready = refl
 
-not_seen : row_text 4 (at 5000) Never ≡ chars "slot  4  bench         5,000 ns  not seen  no difference: no seen time"
+not_seen : row_text 4 (at 5000) None ≡ chars "slot  4  bench         5,000 ns  not seen  no difference: no seen time"
 unfolding row_text slot_text bench_text seen_text column_text margin_text group_margin note_text missing_text nanos_text lateness_of grouped_from decimal_from three_of glyph_of text_if
 not_seen = refl
 
@@ -62,7 +62,7 @@ early_csv : row_csv (chars "night1") 3 (at 2150000) (at 2000000) ≡ chars "nigh
 unfolding row_csv times_csv end_csv moment_csv difference_csv verdict_csv plain_text verdict_text lateness_of apart within decimal_from glyph_of text_if
 early_csv = refl
 
-missing_csv : row_csv (chars "night1") 4 (at 7) Never ≡ chars "night1,4,7,,,"
+missing_csv : row_csv (chars "night1") 4 (at 7) None ≡ chars "night1,4,7,,,"
 unfolding row_csv times_csv end_csv moment_csv difference_csv verdict_csv lateness_of decimal_from glyph_of
 missing_csv = refl
 

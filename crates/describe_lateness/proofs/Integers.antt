@@ -8,6 +8,7 @@ use lib.Dec.{eqb, ltb}
 use lib.ListN.{length, get_or, length-append}
 use lib.IntN.{ℤ, pos, negsuc, neg_ℤ, nat_abs}
 use borrow.Author.Tests.{ltb-true, lt-ltb, le-ltb, ne_eqb}
+use Rattle.std.specs.Prelude.{Some, option_map}
 use Rattle.bits.specs.Text.{chars}
 use Rattle.bits.proofs.Choices.{when_true, when_false}
 use Rattle.text_line.specs.Text.{glyph_of, decimal_from, decimal_of, text_if}
@@ -57,13 +58,13 @@ plain_neg : (n : ℕ) → plain_text (negsuc n) ≡ 0x2D ∷ decimal_of (suc n)
 unfolding plain_text text_if
 plain_neg n = refl
 
-plain_back : (d : ℤ) → nat_abs d < 10 ^ 20 → integer_in (plain_text d) ≡ d
+plain_back : (d : ℤ) → nat_abs d < 10 ^ 20 → integer_in (plain_text d) ≡ Some d
 unfolding integer_in
 plain_back (pos n) h =
     ap integer_in (plain-pos n)
     ∙ when_false (eqb (get_or (decimal_of n) 0 0) 0x2D) _ _ (ne_eqb (get_or (decimal_of n) 0 0) 0x2D (λ (e : get_or (decimal_of n) 0 0 ≡ 0x2D). omega (arith, (starts 19 n).high)))
-    ∙ ap pos (decimal_value 20 n h)
-plain_back (negsuc n) h = ap integer_in (plain_neg n) ∙ ap (λ (k : ℕ). neg_ℤ (pos k)) (decimal_value 20 (suc n) h)
+    ∙ ap (option_map (λ (k : ℕ). pos k)) (decimal_value 20 n h)
+plain_back (negsuc n) h = ap integer_in (plain_neg n) ∙ ap (option_map (λ (k : ℕ). neg_ℤ (pos k))) (decimal_value 20 (suc n) h)
 
 pub read_back : ReadBack
 read_back d h = plain_back d (omega arith)

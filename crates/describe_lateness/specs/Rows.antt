@@ -1,9 +1,7 @@
 -- A slot's line of the table: bench time, seen time, and the difference or what is missing.
-use Rattle.std.specs.Prelude.{ℕ, ◌/◌, List, ◌++◌, ltb, ℤ}
+use Rattle.std.specs.Prelude.{ℕ, ◌/◌, List, ◌++◌, ltb, ℤ, Option, None, Some}
 use Rattle.bits.specs.Text.{chars}
 use Rattle.times.specs.declared.Nanos.{Nanos}
-use Rattle.readiness.specs.declared.Moment.{Moment}
-use Rattle.readiness.specs.declared.Moment.TheVariants.{Never, At}
 use Rattle.text_line.specs.Text.{decimal_of, text_if}
 use Rattle.lateness.specs.declared.Lateness.{Lateness}
 use Rattle.lateness.specs.declared.Lateness.TheVariants.{NoDifference, Of, Outside}
@@ -26,27 +24,27 @@ column_text name t = name ++ margin_text t.0 ++ nanos_text t.0
 unfoldable pub slot_text : ℕ → List ℕ
 slot_text slot = chars "slot " ++ text_if (ltb slot 10) (chars " ") ++ decimal_of slot
 
-unfoldable pub bench_text : Moment → List ℕ
-bench_text Never = chars "  bench not made Ready"
-bench_text (At t) = column_text (chars "  bench ") t
+unfoldable pub bench_text : Option Nanos → List ℕ
+bench_text None = chars "  bench not made Ready"
+bench_text (Some t) = column_text (chars "  bench ") t
 
-unfoldable pub seen_text : Moment → List ℕ
-seen_text Never = chars "  not seen"
-seen_text (At t) = column_text (chars "  seen ") t
+unfoldable pub seen_text : Option Nanos → List ℕ
+seen_text None = chars "  not seen"
+seen_text (Some t) = column_text (chars "  seen ") t
 
 -- why there is no difference
-unfoldable pub missing_text : (bench : Moment) → List ℕ
-missing_text Never = chars "  no difference: the replay did not make it Ready"
-missing_text (At t) = chars "  no difference: no seen time"
+unfoldable pub missing_text : (bench : Option Nanos) → List ℕ
+missing_text None = chars "  no difference: the replay did not make it Ready"
+missing_text (Some t) = chars "  no difference: no seen time"
 
 unfoldable pub within_text : ℤ → List ℕ
 within_text d = chars "  " ++ difference_text d ++ chars "  " ++ verdict_text d
 
-unfoldable pub note_text : (bench : Moment) → Lateness → List ℕ
+unfoldable pub note_text : (bench : Option Nanos) → Lateness → List ℕ
 note_text bench NoDifference = missing_text bench
 note_text bench (Of d) = within_text d
 note_text bench Outside = chars "  34 (difference outside +/-10^15 ns)"
 
 -- the whole line of a slot
-unfoldable pub row_text : (slot : ℕ) (bench seen : Moment) → List ℕ
+unfoldable pub row_text : (slot : ℕ) (bench seen : Option Nanos) → List ℕ
 row_text slot bench seen = slot_text slot ++ bench_text bench ++ seen_text seen ++ note_text bench (lateness_of bench seen)

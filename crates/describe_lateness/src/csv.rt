@@ -1,91 +1,88 @@
 // Comma-separated values: a row for each slot of a capture.
+// Kept in this file: long parameter lists, since each function takes what its text names, from places that share no struct.
+#![tactic(auto, using(text_line::proofs::Putting::putting), unfolding(text_line::specs::Text::text_if, crate::specs::Csv::moment_csv, crate::specs::Csv::difference_csv, crate::specs::Csv::verdict_csv, crate::specs::Csv::times_csv, crate::specs::Csv::end_csv, crate::specs::Csv::row_csv))]
+
 ghost use Rattle.std.specs.Prelude.{◌≡◌};
-ghost use Rattle.text_line.specs.Line.{Put};
+ghost use Rattle.text_line.specs.Page.{put};
 ghost use Rattle.describe_lateness.specs.Csv.{header_text, moment_csv, difference_csv, verdict_csv, times_csv, end_csv, row_csv};
 
 use crate::signed::{put_plain, put_verdict};
 use lateness::{Lateness, difference};
-use readiness::Moment;
-use text_line::text::{put_decimal, put_text};
-use times::nanos_number;
+use text_line::Page;
+use times::{Nanos, nanos_number};
 
 // The names of the columns.
-pub fn put_header(line: &mut [u8], at: usize) -> usize
-    ensures { Put header_text at line.old result line.new }
+pub fn put_header(page: &mut Page)
+    ensures { page.new ≡ put header_text page.old }
 {
-    put_text(
-        line,
-        at,
-        b"capture,slot,bench_ns,seen_ns,difference_ns,verdict",
-    )
+    page.put_text(b"capture,slot,bench_ns,seen_ns,difference_ns,verdict");
 }
 
 // A time in nanoseconds, nothing where there is none.
-fn put_moment(line: &mut [u8], at: usize, m: Moment) -> usize
-    ensures { Put (moment_csv m) at line.old result line.new }
+fn put_moment(page: &mut Page, m: Option<Nanos>)
+    ensures { page.new ≡ put (moment_csv m) page.old }
 {
     match m {
-        Moment::Never => at,
-        Moment::At(t) => put_decimal(line, at, nanos_number(t)),
+        None => {}
+        Some(t) => page.put_decimal(nanos_number(t)),
     }
 }
 
 // A difference, nothing where there is none.
-fn put_value(line: &mut [u8], at: usize, d: Lateness) -> usize
-    ensures { Put (difference_csv d) at line.old result line.new }
+fn put_value(page: &mut Page, d: Lateness)
+    ensures { page.new ≡ put (difference_csv d) page.old }
 {
     match d {
-        Lateness::NoDifference => at,
-        Lateness::Of(value) => put_plain(line, at, value),
-        Lateness::Outside => at,
+        Lateness::NoDifference => {}
+        Lateness::Of(value) => put_plain(page, value),
+        Lateness::Outside => {}
     }
 }
 
 // Early, late or on time; 34 where the difference is refused.
-fn put_word(line: &mut [u8], at: usize, d: Lateness) -> usize
-    ensures { Put (verdict_csv d) at line.old result line.new }
+fn put_word(page: &mut Page, d: Lateness)
+    ensures { page.new ≡ put (verdict_csv d) page.old }
 {
     match d {
-        Lateness::NoDifference => at,
-        Lateness::Of(value) => put_verdict(line, at, value),
-        Lateness::Outside => put_text(line, at, b"34"),
+        Lateness::NoDifference => {}
+        Lateness::Of(value) => put_verdict(page, value),
+        Lateness::Outside => page.put_text(b"34"),
     }
 }
 
 // The two times, with a comma after each.
-fn put_times(line: &mut [u8], at: usize, bench: Moment, seen: Moment) -> usize
-    ensures { Put (times_csv bench seen) at line.old result line.new }
+fn put_times(page: &mut Page, bench: Option<Nanos>, seen: Option<Nanos>)
+    ensures { page.new ≡ put (times_csv bench seen) page.old }
 {
-    let a = put_moment(&mut *line, at, bench);
-    let b = put_text(&mut *line, a, b",");
-    let c = put_moment(&mut *line, b, seen);
-    put_text(line, c, b",")
+    put_moment(page, bench);
+    page.put_text(b",");
+    put_moment(page, seen);
+    page.put_text(b",");
 }
 
 // The difference and its word.
-fn put_end(line: &mut [u8], at: usize, d: Lateness) -> usize
-    ensures { Put (end_csv d) at line.old result line.new }
+fn put_end(page: &mut Page, d: Lateness)
+    ensures { page.new ≡ put (end_csv d) page.old }
 {
-    let a = put_value(&mut *line, at, d);
-    let b = put_text(&mut *line, a, b",");
-    put_word(line, b, d)
+    put_value(page, d);
+    page.put_text(b",");
+    put_word(page, d);
 }
 
 // The row of a slot of a capture, whose name stands in it as it is.
 pub fn put_row(
-    line: &mut [u8],
-    at: usize,
+    page: &mut Page,
     capture: &[u8],
     slot: u64,
-    bench: Moment,
-    seen: Moment,
-) -> usize
-    ensures { Put (row_csv capture.now slot bench seen) at line.old result line.new }
+    bench: Option<Nanos>,
+    seen: Option<Nanos>,
+)
+    ensures { page.new ≡ put (row_csv capture.now slot bench seen) page.old }
 {
-    let a = put_text(&mut *line, at, capture);
-    let b = put_text(&mut *line, a, b",");
-    let c = put_decimal(&mut *line, b, slot);
-    let d = put_text(&mut *line, c, b",");
-    let e = put_times(&mut *line, d, bench, seen);
-    put_end(line, e, difference(bench, seen))
+    page.put_text(capture);
+    page.put_text(b",");
+    page.put_decimal(slot);
+    page.put_text(b",");
+    put_times(page, bench, seen);
+    put_end(page, difference(bench, seen));
 }

@@ -1,11 +1,13 @@
 // Differences with their sign.
+#![tactic(auto, using(text_line::proofs::Putting::putting), unfolding(text_line::specs::Text::text_if, crate::specs::Signed::sign_text, crate::specs::Signed::difference_text, crate::specs::Signed::verdict_text, crate::specs::Signed::plain_text))]
+
 ghost use Rattle.std.specs.Prelude.{◌≡◌, nat_abs};
-ghost use Rattle.text_line.specs.Line.{Put};
+ghost use Rattle.text_line.specs.Page.{put};
 ghost use Rattle.lateness.specs.Totals.{is_early, is_late};
 ghost use Rattle.describe_lateness.specs.Signed.{sign_text, difference_text, verdict_text, plain_text};
 
 use describe_times::time_words::put_nanos;
-use text_line::text::{put_decimal, put_if, put_text};
+use text_line::Page;
 
 fn is_early(d: i64) -> bool
     ensures { result ≡ is_early d }
@@ -31,38 +33,38 @@ fn size_of(d: i64) -> u64
 }
 
 // '-' if it is early, '+' if it is late.
-fn put_sign(line: &mut [u8], at: usize, d: i64) -> usize
-    ensures { Put (sign_text d) at line.old result line.new }
+fn put_sign(page: &mut Page, d: i64)
+    ensures { page.new ≡ put (sign_text d) page.old }
 {
-    let next = put_if(&mut *line, at, is_early(d), b"-");
-    put_if(line, next, is_late(d), b"+")
+    page.put_if(is_early(d), b"-");
+    page.put_if(is_late(d), b"+");
 }
 
 // A difference in nanoseconds, thousands grouped.
-pub fn put_difference(line: &mut [u8], at: usize, d: i64) -> usize
-    ensures { Put (difference_text d) at line.old result line.new }
+pub fn put_difference(page: &mut Page, d: i64)
+    ensures { page.new ≡ put (difference_text d) page.old }
 {
-    let next = put_sign(&mut *line, at, d);
-    put_nanos(line, next, size_of(d))
+    put_sign(page, d);
+    put_nanos(page, size_of(d));
 }
 
 // Early, late or on time.
-pub fn put_verdict(line: &mut [u8], at: usize, d: i64) -> usize
-    ensures { Put (verdict_text d) at line.old result line.new }
+pub fn put_verdict(page: &mut Page, d: i64)
+    ensures { page.new ≡ put (verdict_text d) page.old }
 {
     if is_early(d) {
-        return put_text(line, at, b"early");
+        page.put_text(b"early");
+    } else if is_late(d) {
+        page.put_text(b"late");
+    } else {
+        page.put_text(b"on time");
     }
-    if is_late(d) {
-        return put_text(line, at, b"late");
-    }
-    put_text(line, at, b"on time")
 }
 
 // A plain integer, as programs read it: '-' before a negative one, no grouping.
-pub fn put_plain(line: &mut [u8], at: usize, d: i64) -> usize
-    ensures { Put (plain_text d) at line.old result line.new }
+pub fn put_plain(page: &mut Page, d: i64)
+    ensures { page.new ≡ put (plain_text d) page.old }
 {
-    let next = put_if(&mut *line, at, is_early(d), b"-");
-    put_decimal(line, next, size_of(d))
+    page.put_if(is_early(d), b"-");
+    page.put_decimal(size_of(d));
 }

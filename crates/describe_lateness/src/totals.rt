@@ -1,49 +1,46 @@
 // The totals of a list, or why there are none.
-ghost use Rattle.text_line.specs.Line.{Put};
+#![tactic(auto, using(text_line::proofs::Putting::putting), unfolding(text_line::specs::Text::text_if, crate::specs::Totals::counts_text, crate::specs::Totals::range_text, crate::specs::Totals::refusal_text))]
+
+ghost use Rattle.std.specs.Prelude.{◌≡◌};
+ghost use Rattle.text_line.specs.Page.{put};
 ghost use Rattle.describe_lateness.specs.Totals.{counts_text, range_text, refusal_text};
 
 use crate::signed::put_difference;
 use bits::u64_of_u32;
 use lateness::Report;
-use text_line::text::{put_grouped, put_text};
+use text_line::Page;
 
 // How many were early, on time and late.
-pub fn put_counts(line: &mut [u8], at: usize, r: Report) -> usize
-    ensures { Put (counts_text r) at line.old result line.new }
+pub fn put_counts(page: &mut Page, r: Report)
+    ensures { page.new ≡ put (counts_text r) page.old }
 {
-    let a = put_text(&mut *line, at, b"early ");
-    let b = put_grouped(&mut *line, a, u64_of_u32(r.early));
-    let c = put_text(&mut *line, b, b", on time ");
-    let d = put_grouped(&mut *line, c, u64_of_u32(r.on_time));
-    let e = put_text(&mut *line, d, b", late ");
-    put_grouped(line, e, u64_of_u32(r.late))
+    page.put_text(b"early ");
+    page.put_grouped(u64_of_u32(r.early));
+    page.put_text(b", on time ");
+    page.put_grouped(u64_of_u32(r.on_time));
+    page.put_text(b", late ");
+    page.put_grouped(u64_of_u32(r.late));
 }
 
 // The least and the greatest difference, and the sum.
-pub fn put_range(line: &mut [u8], at: usize, least: i64, greatest: i64, sum: i64) -> usize
-    ensures { Put (range_text least greatest sum) at line.old result line.new }
+pub fn put_range(page: &mut Page, least: i64, greatest: i64, sum: i64)
+    ensures { page.new ≡ put (range_text least greatest sum) page.old }
 {
-    let a = put_text(&mut *line, at, b"least ");
-    let b = put_difference(&mut *line, a, least);
-    let c = put_text(&mut *line, b, b", greatest ");
-    let d = put_difference(&mut *line, c, greatest);
-    let e = put_text(&mut *line, d, b", sum ");
-    put_difference(line, e, sum)
+    page.put_text(b"least ");
+    put_difference(page, least);
+    page.put_text(b", greatest ");
+    put_difference(page, greatest);
+    page.put_text(b", sum ");
+    put_difference(page, sum);
 }
 
 // Why there are no totals.
-pub fn put_refusal(line: &mut [u8], at: usize, number: u8) -> usize
-    ensures { Put (refusal_text number) at line.old result line.new }
+pub fn put_refusal(page: &mut Page, number: u8)
+    ensures { page.new ≡ put (refusal_text number) page.old }
 {
     if number == 34 {
-        return put_text(
-            line,
-            at,
-            b"34 (a difference outside +/-10^15 ns): no totals",
-        );
+        page.put_text(b"34 (a difference outside +/-10^15 ns): no totals");
+    } else if number == 35 {
+        page.put_text(b"35 (more than 9,000 differences): no totals");
     }
-    if number == 35 {
-        return put_text(line, at, b"35 (more than 9,000 differences): no totals");
-    }
-    at
 }

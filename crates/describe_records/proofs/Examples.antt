@@ -1,5 +1,6 @@
 -- Records in words, as antt computes them.
 use mathlib.Core.Path.{◌≡◌, refl}
+use Rattle.std.specs.Prelude.{Some}
 use Rattle.messages.specs.declared.Message.TheVariants.{Frs}
 use Rattle.records.specs.declared.Record.{Record}
 use Rattle.records.specs.declared.Record.TheVariants.{Read, Message, ClearBits, Control}
@@ -15,7 +16,7 @@ a_read : record_text first_read ≡ chars "configuration read slot 0 offset 00h 
 unfolding record_text request_text place_text offset_text offset_of enables_text hex_of decimal_from glyph_of
 a_read = refl
 
-an_frs : record_text (Message (Frs 0x0100 3)) ≡ chars "message: FRS from 0100h, reason 3 (FLR completed)"
+an_frs : record_text (Message (Some (Frs 0x0100 3))) ≡ chars "message: FRS from 0100h, reason 3 (FLR completed)"
 unfolding record_text message_record_text message_text frs_text id_text reason_meaning hex_of decimal_from glyph_of
 an_frs = refl
 

@@ -1,7 +1,7 @@
 -- A record in words, and a readiness message.
-use Rattle.std.specs.Prelude.{ℕ, ◌*◌, ◌/◌, ◌%◌, Bool, false, ◌||◌, cond, List, ◌++◌, eqb, ltb}
+use Rattle.std.specs.Prelude.{ℕ, ◌*◌, ◌/◌, ◌%◌, Bool, false, ◌||◌, cond, List, ◌++◌, eqb, ltb, Option, Some, None}
 use Rattle.messages.specs.declared.Message.{Message}
-use Rattle.messages.specs.declared.Message.TheVariants.{Drs, Frs, NotReadiness}
+use Rattle.messages.specs.declared.Message.TheVariants.{Drs, Frs}
 use Rattle.records.specs.declared.Request.{Request}
 use Rattle.records.specs.declared.Record.{Record}
 use Rattle.records.specs.declared.Record.TheVariants.{Advance, Read, Write, Message as OfMessage, LinkUp, LinkDown, ColdReset, ReadQueue, RemoveOldest, ClearBits, Control, HardwareSet, ReadBits, NoKind}
@@ -66,10 +66,10 @@ frs_text id reason = chars "FRS from " ++ id_text id ++ named (chars ", reason "
 unfoldable pub drs_text : ℕ → List ℕ
 drs_text id = chars "DRS from " ++ id_text id
 
-unfoldable pub message_text : Message → List ℕ
-message_text (Drs id) = drs_text id
-message_text (Frs id reason) = frs_text id reason
-message_text NotReadiness = chars "no readiness message"
+unfoldable pub message_text : Option Message → List ℕ
+message_text (Some (Drs id)) = drs_text id
+message_text (Some (Frs id reason)) = frs_text id reason
+message_text None = chars "no readiness message"
 
 -- ---- records
 
@@ -83,7 +83,7 @@ request_text name r = name ++ place_text r.slot r.word ++ chars " enables " ++ e
 unfoldable pub write_text : Request → ℕ → List ℕ
 write_text r n = request_text (chars "configuration write") r ++ chars " data " ++ word_text n
 
-unfoldable pub message_record_text : Message → List ℕ
+unfoldable pub message_record_text : Option Message → List ℕ
 message_record_text m = chars "message: " ++ message_text m
 
 -- a name of a list, where it applies; `later` where another stands before it

@@ -1,30 +1,31 @@
 // A record in words, and a readiness message.
+// Kept in this file: matches on numbers, since signallings and reasons are the papers' numbers.
+#![tactic(auto, using(text_line::proofs::Putting::putting), unfolding(text_line::specs::Text::text_if, crate::specs::Records::id_text, crate::specs::Records::word_text, crate::specs::Records::offset_of, crate::specs::Records::offset_text, crate::specs::Records::place_text, crate::specs::Records::enables_text, crate::specs::Records::switch_text, crate::specs::Records::signalling_meaning, crate::specs::Records::signalling_text, crate::specs::Records::reason_meaning, crate::specs::Records::frs_text, crate::specs::Records::drs_text, crate::specs::Records::message_text, crate::specs::Records::advance_text, crate::specs::Records::request_text, crate::specs::Records::write_text, crate::specs::Records::message_record_text, crate::specs::Records::listed_text, crate::specs::Records::bits_text, crate::specs::Records::clear_text, crate::specs::Records::control_text, crate::specs::Records::hardware_text, crate::specs::Records::kind_of, crate::specs::Records::record_text))]
+
 ghost use Rattle.std.specs.Prelude.{◌≡◌};
-ghost use Rattle.text_line.specs.Line.{Put};
+ghost use Rattle.text_line.specs.Page.{put};
 ghost use Rattle.describe_records.specs.Records.{id_text, word_text, offset_of, offset_text, place_text, enables_text, switch_text, signalling_meaning, signalling_text, reason_meaning, frs_text, drs_text, message_text, advance_text, request_text, write_text, message_record_text, listed_text, bits_text, clear_text, control_text, hardware_text, kind_of, record_text};
 
 use messages::Message;
 use records::{Record, Request};
-use text_line::text::{
-    put_either, put_hex1, put_hex2, put_hex3, put_hex4, put_hex8, put_if, put_named, put_text,
-};
+use text_line::Page;
 
 // ---- Parts
 
 // A number of four hex digits, as an ID has.
-pub fn put_id(line: &mut [u8], at: usize, id: u16) -> usize
-    ensures { Put (id_text id) at line.old result line.new }
+pub fn put_id(page: &mut Page, id: u16)
+    ensures { page.new ≡ put (id_text id) page.old }
 {
-    let next = put_hex4(&mut *line, at, id as u64);
-    put_text(line, next, b"h")
+    page.put_hex(4, id as u64);
+    page.put_text(b"h");
 }
 
 // A register's value.
-pub fn put_word(line: &mut [u8], at: usize, word: u32) -> usize
-    ensures { Put (word_text word) at line.old result line.new }
+pub fn put_word(page: &mut Page, word: u32)
+    ensures { page.new ≡ put (word_text word) page.old }
 {
-    let next = put_hex8(&mut *line, at, word as u64);
-    put_text(line, next, b"h")
+    page.put_hex(8, word as u64);
+    page.put_text(b"h");
 }
 
 // The byte offset of a word; no record names a word above 255.
@@ -35,198 +36,196 @@ fn offset_of(word: usize) -> u64
 }
 
 // An offset, in two hex digits, or three where two are too few.
-fn put_offset(line: &mut [u8], at: usize, offset: u64) -> usize
-    ensures { Put (offset_text offset) at line.old result line.new }
+fn put_offset(page: &mut Page, offset: u64)
+    ensures { page.new ≡ put (offset_text offset) page.old }
 {
     if offset < 256 {
-        put_hex2(line, at, offset)
+        page.put_hex(2, offset);
     } else {
-        put_hex3(line, at, offset)
+        page.put_hex(3, offset);
     }
 }
 
 // Slot and offset.
-fn put_place(line: &mut [u8], at: usize, slot: usize, word: usize) -> usize
-    ensures { Put (place_text slot word) at line.old result line.new }
+fn put_place(page: &mut Page, slot: usize, word: usize)
+    ensures { page.new ≡ put (place_text slot word) page.old }
 {
-    let a = put_named(&mut *line, at, b" slot ", slot as u64);
-    let b = put_text(&mut *line, a, b" offset ");
-    let c = put_offset(&mut *line, b, offset_of(word));
-    put_text(line, c, b"h")
+    page.put_named(b" slot ", slot as u64);
+    page.put_text(b" offset ");
+    put_offset(page, offset_of(word));
+    page.put_text(b"h");
 }
 
 // The byte enables, in one hex digit, or two where one is too few.
-fn put_enables(line: &mut [u8], at: usize, enables: u8) -> usize
-    ensures { Put (enables_text enables) at line.old result line.new }
+fn put_enables(page: &mut Page, enables: u8)
+    ensures { page.new ≡ put (enables_text enables) page.old }
 {
     if enables < 16 {
-        put_hex1(line, at, enables as u64)
+        page.put_hex(1, enables as u64);
     } else {
-        put_hex2(line, at, enables as u64)
+        page.put_hex(2, enables as u64);
     }
 }
 
 // A name, and on or off.
-pub fn put_switch(line: &mut [u8], at: usize, name: &[u8], on: bool) -> usize
-    ensures { Put (switch_text name.now on) at line.old result line.new }
+pub fn put_switch(page: &mut Page, name: &[u8], on: bool)
+    ensures { page.new ≡ put (switch_text name.now on) page.old }
 {
-    let next = put_text(&mut *line, at, name);
-    put_either(line, next, on, b"on", b"off")
+    page.put_text(name);
+    page.put_either(on, b"on", b"off");
 }
 
 // What a DRS signalling means: with 1 the DRS interrupt is raised, with 2 an FRS arrives.
-fn put_signalling_meaning(line: &mut [u8], at: usize, signalling: u8) -> usize
-    ensures { Put (signalling_meaning signalling) at line.old result line.new }
+fn put_signalling_meaning(page: &mut Page, signalling: u8)
+    ensures { page.new ≡ put (signalling_meaning signalling) page.old }
 {
     match signalling {
-        0 => put_text(line, at, b" (none)"),
-        1 => put_text(line, at, b" (interrupt)"),
-        2 => put_text(line, at, b" (FRS)"),
-        _ => put_text(line, at, b" (not allowed)"),
+        0 => page.put_text(b" (none)"),
+        1 => page.put_text(b" (interrupt)"),
+        2 => page.put_text(b" (FRS)"),
+        _ => page.put_text(b" (not allowed)"),
     }
 }
 
 // DRS signalling, and what it means.
-pub fn put_signalling(line: &mut [u8], at: usize, signalling: u8) -> usize
-    ensures { Put (signalling_text signalling) at line.old result line.new }
+pub fn put_signalling(page: &mut Page, signalling: u8)
+    ensures { page.new ≡ put (signalling_text signalling) page.old }
 {
-    let next = put_named(&mut *line, at, b", DRS signalling ", signalling as u64);
-    put_signalling_meaning(line, next, signalling)
+    page.put_named(b", DRS signalling ", signalling as u64);
+    put_signalling_meaning(page, signalling);
 }
 
 // ---- Messages
 
 // What an FRS reason means.
-fn put_reason_meaning(line: &mut [u8], at: usize, reason: u8) -> usize
-    ensures { Put (reason_meaning reason) at line.old result line.new }
+fn put_reason_meaning(page: &mut Page, reason: u8)
+    ensures { page.new ≡ put (reason_meaning reason) page.old }
 {
     match reason {
-        1 => put_text(line, at, b" (DRS received)"),
-        2 => put_text(line, at, b" (D3hot to D0)"),
-        3 => put_text(line, at, b" (FLR completed)"),
-        8 => put_text(line, at, b" (VF enabled)"),
-        9 => put_text(line, at, b" (VF disabled)"),
-        _ => put_text(line, at, b" (reserved)"),
+        1 => page.put_text(b" (DRS received)"),
+        2 => page.put_text(b" (D3hot to D0)"),
+        3 => page.put_text(b" (FLR completed)"),
+        8 => page.put_text(b" (VF enabled)"),
+        9 => page.put_text(b" (VF disabled)"),
+        _ => page.put_text(b" (reserved)"),
     }
 }
 
 // An FRS: the requester ID and the reason.
-pub fn put_frs(line: &mut [u8], at: usize, id: u16, reason: u8) -> usize
-    ensures { Put (frs_text id reason) at line.old result line.new }
+pub fn put_frs(page: &mut Page, id: u16, reason: u8)
+    ensures { page.new ≡ put (frs_text id reason) page.old }
 {
-    let a = put_text(&mut *line, at, b"FRS from ");
-    let b = put_id(&mut *line, a, id);
-    let c = put_named(&mut *line, b, b", reason ", reason as u64);
-    put_reason_meaning(line, c, reason)
+    page.put_text(b"FRS from ");
+    put_id(page, id);
+    page.put_named(b", reason ", reason as u64);
+    put_reason_meaning(page, reason);
 }
 
 // A DRS: the requester ID.
-pub fn put_drs(line: &mut [u8], at: usize, id: u16) -> usize
-    ensures { Put (drs_text id) at line.old result line.new }
+pub fn put_drs(page: &mut Page, id: u16)
+    ensures { page.new ≡ put (drs_text id) page.old }
 {
-    let next = put_text(&mut *line, at, b"DRS from ");
-    put_id(line, next, id)
+    page.put_text(b"DRS from ");
+    put_id(page, id);
 }
 
-pub fn put_message(line: &mut [u8], at: usize, message: Message) -> usize
-    ensures { Put (message_text message) at line.old result line.new }
+pub fn put_message(page: &mut Page, message: Option<Message>)
+    ensures { page.new ≡ put (message_text message) page.old }
 {
     match message {
-        Message::Drs(id) => put_drs(line, at, id),
-        Message::Frs(id, reason) => put_frs(line, at, id, reason),
-        Message::NotReadiness => put_text(line, at, b"no readiness message"),
+        Some(Message::Drs(id)) => put_drs(page, id),
+        Some(Message::Frs(id, reason)) => put_frs(page, id, reason),
+        None => page.put_text(b"no readiness message"),
     }
 }
 
 // ---- Records
 
-fn put_advance(line: &mut [u8], at: usize, by: u64) -> usize
-    ensures { Put (advance_text by) at line.old result line.new }
+fn put_advance(page: &mut Page, by: u64)
+    ensures { page.new ≡ put (advance_text by) page.old }
 {
-    let next = put_named(&mut *line, at, b"advance clock by ", by);
-    put_text(line, next, b" ns")
+    page.put_named(b"advance clock by ", by);
+    page.put_text(b" ns");
 }
 
 // A configuration request: its name, slot, offset and byte enables.
-fn put_request(line: &mut [u8], at: usize, name: &[u8], request: Request) -> usize
-    ensures { Put (request_text name.now request) at line.old result line.new }
+fn put_request(page: &mut Page, name: &[u8], request: Request)
+    ensures { page.new ≡ put (request_text name.now request) page.old }
 {
-    let a = put_text(&mut *line, at, name);
-    let b = put_place(&mut *line, a, request.slot, request.word);
-    let c = put_text(&mut *line, b, b" enables ");
-    let d = put_enables(&mut *line, c, request.enables);
-    put_text(line, d, b"h")
+    page.put_text(name);
+    put_place(page, request.slot, request.word);
+    page.put_text(b" enables ");
+    put_enables(page, request.enables);
+    page.put_text(b"h");
 }
 
-fn put_write(line: &mut [u8], at: usize, request: Request, data: u32) -> usize
-    ensures { Put (write_text request «data») at line.old result line.new }
+fn put_write(page: &mut Page, request: Request, data: u32)
+    ensures { page.new ≡ put (write_text request «data») page.old }
 {
-    let a = put_request(&mut *line, at, b"configuration write", request);
-    let b = put_text(&mut *line, a, b" data ");
-    put_word(line, b, data)
+    put_request(page, b"configuration write", request);
+    page.put_text(b" data ");
+    put_word(page, data);
 }
 
-fn put_message_record(line: &mut [u8], at: usize, message: Message) -> usize
-    ensures { Put (message_record_text message) at line.old result line.new }
+fn put_message_record(page: &mut Page, message: Option<Message>)
+    ensures { page.new ≡ put (message_record_text message) page.old }
 {
-    let next = put_text(&mut *line, at, b"message: ");
-    put_message(line, next, message)
+    page.put_text(b"message: ");
+    put_message(page, message);
 }
 
 // A name of a list, where it applies; `later` where another stands before it.
-pub fn put_listed(line: &mut [u8], at: usize, later: bool, applies: bool, name: &[u8]) -> usize
-    ensures { Put (listed_text later applies name.now) at line.old result line.new }
+pub fn put_listed(page: &mut Page, later: bool, applies: bool, name: &[u8])
+    ensures { page.new ≡ put (listed_text later applies name.now) page.old }
 {
     if applies {
-        let next = put_either(&mut *line, at, later, b", ", b" ");
-        return put_text(line, next, name);
+        page.put_either(later, b", ", b" ");
+        page.put_text(name);
     }
-    at
 }
 
 // The status bits by name, numbered as in record 0A.
-pub fn put_bits(line: &mut [u8], at: usize, bits: u8) -> usize
-    ensures { Put (bits_text bits) at line.old result line.new }
+pub fn put_bits(page: &mut Page, bits: u8)
+    ensures { page.new ≡ put (bits_text bits) page.old }
 {
     let received = bits % 2 == 1;
     let overflow = bits / 2 % 2 == 1;
-    let a = put_listed(&mut *line, at, false, received, b"Received");
-    let b = put_listed(&mut *line, a, received, overflow, b"Overflow");
-    let c = put_listed(
-        &mut *line,
-        b,
+    put_listed(page, false, received, b"Received");
+    put_listed(page, received, overflow, b"Overflow");
+    put_listed(
+        page,
         received | overflow,
         bits / 4 % 2 == 1,
         b"DRS Received",
     );
-    put_if(line, c, bits % 8 == 0, b" none")
+    page.put_if(bits % 8 == 0, b" none");
 }
 
-fn put_clear(line: &mut [u8], at: usize, bits: u8) -> usize
-    ensures { Put (clear_text bits) at line.old result line.new }
+fn put_clear(page: &mut Page, bits: u8)
+    ensures { page.new ≡ put (clear_text bits) page.old }
 {
-    let next = put_text(&mut *line, at, b"clear status bits:");
-    put_bits(line, next, bits)
+    page.put_text(b"clear status bits:");
+    put_bits(page, bits);
 }
 
 // The control byte.
-fn put_control(line: &mut [u8], at: usize, control: u8) -> usize
-    ensures { Put (control_text control) at line.old result line.new }
+fn put_control(page: &mut Page, control: u8)
+    ensures { page.new ≡ put (control_text control) page.old }
 {
-    let a = put_text(&mut *line, at, b"control ");
-    let b = put_hex2(&mut *line, a, control as u64);
-    let c = put_switch(&mut *line, b, b"h: CRS visibility ", control % 2 == 1);
-    let d = put_switch(&mut *line, c, b", FRS interrupt ", control / 2 % 2 == 1);
-    put_signalling(line, d, control / 4 % 4)
+    page.put_text(b"control ");
+    page.put_hex(2, control as u64);
+    put_switch(page, b"h: CRS visibility ", control % 2 == 1);
+    put_switch(page, b", FRS interrupt ", control / 2 % 2 == 1);
+    put_signalling(page, control / 4 % 4);
 }
 
-fn put_hardware(line: &mut [u8], at: usize, slot: usize, word: usize, mask: u32) -> usize
-    ensures { Put (hardware_text slot word mask) at line.old result line.new }
+fn put_hardware(page: &mut Page, slot: usize, word: usize, mask: u32)
+    ensures { page.new ≡ put (hardware_text slot word mask) page.old }
 {
-    let a = put_text(&mut *line, at, b"hardware sets bits:");
-    let b = put_place(&mut *line, a, slot, word);
-    let c = put_text(&mut *line, b, b" mask ");
-    put_word(line, c, mask)
+    page.put_text(b"hardware sets bits:");
+    put_place(page, slot, word);
+    page.put_text(b" mask ");
+    put_word(page, mask);
 }
 
 // The kind of a record; 0 for none.
@@ -251,23 +250,23 @@ pub fn kind_of(item: Record) -> u8
     }
 }
 
-pub fn put_record(line: &mut [u8], at: usize, item: Record) -> usize
-    ensures { Put (record_text item) at line.old result line.new }
+pub fn put_record(page: &mut Page, item: Record)
+    ensures { page.new ≡ put (record_text item) page.old }
 {
     match item {
-        Record::Advance(by) => put_advance(line, at, times::nanos_number(by)),
-        Record::Read(request) => put_request(line, at, b"configuration read", request),
-        Record::Write(request, data) => put_write(line, at, request, data),
-        Record::Message(message) => put_message_record(line, at, message),
-        Record::LinkUp => put_text(line, at, b"link up"),
-        Record::LinkDown => put_text(line, at, b"link down"),
-        Record::ColdReset => put_text(line, at, b"cold reset"),
-        Record::ReadQueue => put_text(line, at, b"read queue register"),
-        Record::RemoveOldest => put_text(line, at, b"remove oldest"),
-        Record::ClearBits(bits) => put_clear(line, at, bits),
-        Record::Control(control) => put_control(line, at, control),
-        Record::HardwareSet(slot, word, mask) => put_hardware(line, at, slot, word, mask),
-        Record::ReadBits => put_text(line, at, b"read status bits"),
-        Record::NoKind => put_text(line, at, b"unknown kind"),
+        Record::Advance(by) => put_advance(page, times::nanos_number(by)),
+        Record::Read(request) => put_request(page, b"configuration read", request),
+        Record::Write(request, data) => put_write(page, request, data),
+        Record::Message(message) => put_message_record(page, message),
+        Record::LinkUp => page.put_text(b"link up"),
+        Record::LinkDown => page.put_text(b"link down"),
+        Record::ColdReset => page.put_text(b"cold reset"),
+        Record::ReadQueue => page.put_text(b"read queue register"),
+        Record::RemoveOldest => page.put_text(b"remove oldest"),
+        Record::ClearBits(bits) => put_clear(page, bits),
+        Record::Control(control) => put_control(page, control),
+        Record::HardwareSet(slot, word, mask) => put_hardware(page, slot, word, mask),
+        Record::ReadBits => page.put_text(b"read status bits"),
+        Record::NoKind => page.put_text(b"unknown kind"),
     }
 }

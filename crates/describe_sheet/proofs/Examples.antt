@@ -1,7 +1,6 @@
 -- Lines of and about time sheets, as antt computes them.
 use mathlib.Core.Path.{◌≡◌, refl}
 use mathlib.Core.Bool.{true}
-use mathlib.Core.List.{[]}
 use Prim.Native.Nat.{ℕ}
 use Rattle.bits.specs.Text.{chars}
 use Rattle.times.specs.declared.Code.{Code}
@@ -12,7 +11,7 @@ use Rattle.times.specs.Codes.{power_of, nanos_of}
 use Rattle.times.specs.Claims.{nanos_in, claimed_nanos}
 use Rattle.sheet_grammar.specs.declared.SheetLine.{SheetLine}
 use Rattle.sheet_grammar.specs.declared.Fault.{Fault}
-use Rattle.sheet_grammar.specs.declared.Doubt.TheVariants.{Nothing, AskUnit, OneIsZero}
+use Rattle.sheet_grammar.specs.declared.Doubt.TheVariants.{AskUnit, OneIsZero}
 use Rattle.sheet_grammar.specs.Reading.{is_too_long}
 use Rattle.text_line.specs.Text.{glyph_of, hex_of, decimal_from, three_of, six_of, grouped_from}
 use Rattle.describe_times.specs.Times.{unit_text, claim_text, nanos_text, thousandths_text, best_text, time_text, millionths_text, in_unit_text}
@@ -146,7 +145,3 @@ ask_unit = refl
 one_is_zero : doubt_text 2 2 (claim 300 Us) (code 0) (code 0x525) OneIsZero ≡ chars "slot 2 FLR: 300 us is coded as 300,032 ns (300.032 us), the card had 0 ns"
 unfolding doubt_text both_text unit_text claim_text nanos_text thousandths_text best_text time_text millionths_text in_unit_text grouped_from decimal_from three_of six_of hex_of glyph_of nanos_of power_of claimed_nanos nanos_in time_name slot_time_text code_text is_ns not_ns_text same_in_nanos_text rounded_text rounding_text
 one_is_zero = refl
-
-no_doubt : doubt_text 2 2 (claim 300 Us) (code 0x525) (code 0x525) Nothing ≡ []
-unfolding doubt_text
-no_doubt = refl

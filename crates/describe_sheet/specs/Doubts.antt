@@ -1,11 +1,11 @@
 -- Codes far from those that the card had.
-use Rattle.std.specs.Prelude.{ℕ, List, [], ◌++◌}
+use Rattle.std.specs.Prelude.{ℕ, List, ◌++◌}
 use Rattle.bits.specs.Text.{chars}
 use Rattle.times.specs.declared.Code.{Code}
 use Rattle.times.specs.declared.ClaimedTime.{ClaimedTime}
 use Rattle.times.specs.Codes.{nanos_of}
 use Rattle.sheet_grammar.specs.declared.Doubt.{Doubt}
-use Rattle.sheet_grammar.specs.declared.Doubt.TheVariants.{Nothing, AskUnit, OneIsZero}
+use Rattle.sheet_grammar.specs.declared.Doubt.TheVariants.{AskUnit, OneIsZero}
 use Rattle.describe_times.specs.Times.{claim_text, time_text}
 use Rattle.describe_sheet.specs.Parts.{slot_time_text}
 
@@ -19,8 +19,7 @@ both_text slot which claim before after =
     ++ chars ", the card had "
     ++ time_text (nanos_of before)
 
--- what is to be said of a code that a sheet gives, beside the one that was there before
+-- what is to be said of a doubtful code that a sheet gives, beside the one that was there before
 unfoldable pub doubt_text : (slot which : ℕ) → ClaimedTime → (before after : Code) → Doubt → List ℕ
-doubt_text slot which claim before after Nothing = []
 doubt_text slot which claim before after AskUnit = both_text slot which claim before after ++ chars ": is the unit right?"
 doubt_text slot which claim before after OneIsZero = both_text slot which claim before after

@@ -1,76 +1,78 @@
 // The state of the bench in words: link, port bits, queue and slots.
+#![tactic(auto, using(text_line::proofs::Putting::putting), unfolding(text_line::specs::Text::text_if, crate::specs::States::moment_text, crate::specs::States::link_text, crate::specs::States::bit_text, crate::specs::States::port_bits_text, crate::specs::States::port_control_text, crate::specs::States::queue_text, crate::specs::States::cell_text, crate::specs::States::queued_cell, crate::specs::States::queued_text, crate::specs::States::cause_text, crate::specs::States::pending_text, crate::specs::States::phase_text, crate::specs::States::slot_text))]
+
 ghost use Rattle.std.specs.Prelude.{◌≡◌};
-ghost use Rattle.text_line.specs.Line.{Put};
+ghost use Rattle.text_line.specs.Page.{put};
 ghost use Rattle.describe_state.specs.States.{moment_text, link_text, bit_text, port_bits_text, port_control_text, queue_text, cell_text, queued_cell, queued_text, cause_text, pending_text, phase_text, slot_text};
 
 use bits::word_at;
 use describe_records::record_words::{put_frs, put_signalling, put_switch};
 use frs_queue::place;
 use readiness::{Cause, Control, Dev, Phase};
-use text_line::text::{put_either, put_if, put_named, put_text};
+use text_line::Page;
 use times::Nanos;
 
 // A moment, after its name.
-fn put_moment(line: &mut [u8], at: usize, name: &[u8], moment: Nanos) -> usize
-    ensures { Put (moment_text name.now moment) at line.old result line.new }
+fn put_moment(page: &mut Page, name: &[u8], moment: Nanos)
+    ensures { page.new ≡ put (moment_text name.now moment) page.old }
 {
-    let next = put_named(&mut *line, at, name, times::nanos_number(moment));
-    put_text(line, next, b" ns")
+    page.put_named(name, times::nanos_number(moment));
+    page.put_text(b" ns");
 }
 
 // The clock and the link, and whether a DRS is owed.
-pub fn put_link(line: &mut [u8], at: usize, dev: Dev) -> usize
-    ensures { Put (link_text dev) at line.old result line.new }
+pub fn put_link(page: &mut Page, dev: Dev)
+    ensures { page.new ≡ put (link_text dev) page.old }
 {
     let clock = dev.clock;
-    let a = put_moment(&mut *line, at, b"clock ", clock);
-    let b = put_text(&mut *line, a, b", link ");
-    let c = put_either(&mut *line, b, dev.link, b"up", b"down");
-    put_if(line, c, dev.owed, b", a DRS is owed")
+    put_moment(page, b"clock ", clock);
+    page.put_text(b", link ");
+    page.put_either(dev.link, b"up", b"down");
+    page.put_if(dev.owed, b", a DRS is owed");
 }
 
 // A bit by its name.
-fn put_bit(line: &mut [u8], at: usize, name: &[u8], bit: bool) -> usize
-    ensures { Put (bit_text name.now bit) at line.old result line.new }
+fn put_bit(page: &mut Page, name: &[u8], bit: bool)
+    ensures { page.new ≡ put (bit_text name.now bit) page.old }
 {
-    let next = put_text(&mut *line, at, name);
-    put_either(line, next, bit, b"1", b"0")
+    page.put_text(name);
+    page.put_either(bit, b"1", b"0");
 }
 
 // The status bits of the port.
-pub fn put_port_bits(line: &mut [u8], at: usize, dev: Dev) -> usize
-    ensures { Put (port_bits_text dev) at line.old result line.new }
+pub fn put_port_bits(page: &mut Page, dev: Dev)
+    ensures { page.new ≡ put (port_bits_text dev) page.old }
 {
     let queue = dev.queue;
-    let a = put_bit(&mut *line, at, b"Received ", queue.received);
-    let b = put_bit(&mut *line, a, b", Overflow ", queue.overflow);
-    put_bit(line, b, b", DRS Received ", dev.drs_received)
+    put_bit(page, b"Received ", queue.received);
+    put_bit(page, b", Overflow ", queue.overflow);
+    put_bit(page, b", DRS Received ", dev.drs_received);
 }
 
 // The control bits of the port.
-pub fn put_port_control(line: &mut [u8], at: usize, control: Control) -> usize
-    ensures { Put (port_control_text control) at line.old result line.new }
+pub fn put_port_control(page: &mut Page, control: Control)
+    ensures { page.new ≡ put (port_control_text control) page.old }
 {
-    let a = put_switch(&mut *line, at, b"CRS visibility ", control.visibility);
-    let b = put_switch(&mut *line, a, b", FRS interrupt ", control.frs_interrupt);
-    put_signalling(line, b, control.signalling)
+    put_switch(page, b"CRS visibility ", control.visibility);
+    put_switch(page, b", FRS interrupt ", control.frs_interrupt);
+    put_signalling(page, control.signalling);
 }
 
 // The depth of the queue, and the greatest.
-pub fn put_queue(line: &mut [u8], at: usize, depth: usize, most: usize) -> usize
-    ensures { Put (queue_text depth most) at line.old result line.new }
+pub fn put_queue(page: &mut Page, depth: usize, most: usize)
+    ensures { page.new ≡ put (queue_text depth most) page.old }
 {
-    let next = put_named(&mut *line, at, b"queue depth ", depth as u64);
-    put_named(line, next, b" of ", most as u64)
+    page.put_named(b"queue depth ", depth as u64);
+    page.put_named(b" of ", most as u64);
 }
 
 // The message in a queue cell.
-pub fn put_cell(line: &mut [u8], at: usize, cell: u32) -> usize
-    ensures { Put (cell_text cell) at line.old result line.new }
+pub fn put_cell(page: &mut Page, cell: u32)
+    ensures { page.new ≡ put (cell_text cell) page.old }
 {
     let id = (cell % 65536) as u16;
     let reason = (cell / 65536 % 16) as u8;
-    put_frs(line, at, id, reason)
+    put_frs(page, id, reason);
 }
 
 // The cell of the i-th oldest message of the queue that starts at cell `start`.
@@ -84,47 +86,47 @@ fn queued_cell(cells: &[u32], start: usize, i: usize) -> u32
 }
 
 // The i-th oldest message of that queue.
-pub fn put_queued(line: &mut [u8], at: usize, cells: &[u32], start: usize, i: usize) -> usize
-    ensures { Put (queued_text cells.now start i) at line.old result line.new }
+pub fn put_queued(page: &mut Page, cells: &[u32], start: usize, i: usize)
+    ensures { page.new ≡ put (queued_text cells.now start i) page.old }
 {
-    put_cell(line, at, queued_cell(cells, start, i))
+    put_cell(page, queued_cell(cells, start, i));
 }
 
 // What a Pending slot is starting after.
-fn put_cause(line: &mut [u8], at: usize, cause: Cause) -> usize
-    ensures { Put (cause_text cause) at line.old result line.new }
+fn put_cause(page: &mut Page, cause: Cause)
+    ensures { page.new ≡ put (cause_text cause) page.old }
 {
     match cause {
-        Cause::LinkUp => put_text(line, at, b" (link up)"),
+        Cause::LinkUp => page.put_text(b" (link up)"),
         Cause::Flr(end) => {
-            let next = put_moment(&mut *line, at, b" (FLR, in progress until ", end);
-            put_text(line, next, b")")
+            put_moment(page, b" (FLR, in progress until ", end);
+            page.put_text(b")");
         }
-        Cause::D3hot => put_text(line, at, b" (D3hot to D0)"),
+        Cause::D3hot => page.put_text(b" (D3hot to D0)"),
     }
 }
 
-fn put_pending(line: &mut [u8], at: usize, cause: Cause, ready: Nanos) -> usize
-    ensures { Put (pending_text cause ready) at line.old result line.new }
+fn put_pending(page: &mut Page, cause: Cause, ready: Nanos)
+    ensures { page.new ≡ put (pending_text cause ready) page.old }
 {
-    let next = put_moment(&mut *line, at, b": Pending until ", ready);
-    put_cause(line, next, cause)
+    put_moment(page, b": Pending until ", ready);
+    put_cause(page, cause);
 }
 
-fn put_phase(line: &mut [u8], at: usize, phase: Phase) -> usize
-    ensures { Put (phase_text phase) at line.old result line.new }
+fn put_phase(page: &mut Page, phase: Phase)
+    ensures { page.new ≡ put (phase_text phase) page.old }
 {
     match phase {
-        Phase::Down => put_text(line, at, b": Down"),
-        Phase::Pending(cause, ready) => put_pending(line, at, cause, ready),
-        Phase::Ready => put_text(line, at, b": Ready"),
+        Phase::Down => page.put_text(b": Down"),
+        Phase::Pending(cause, ready) => put_pending(page, cause, ready),
+        Phase::Ready => page.put_text(b": Ready"),
     }
 }
 
 // A slot's state, with its ready time where it is Pending.
-pub fn put_slot(line: &mut [u8], at: usize, slot: usize, phase: Phase) -> usize
-    ensures { Put (slot_text slot phase) at line.old result line.new }
+pub fn put_slot(page: &mut Page, slot: usize, phase: Phase)
+    ensures { page.new ≡ put (slot_text slot phase) page.old }
 {
-    let next = put_named(&mut *line, at, b"slot ", slot as u64);
-    put_phase(line, next, phase)
+    page.put_named(b"slot ", slot as u64);
+    put_phase(page, phase);
 }

@@ -1,92 +1,94 @@
 // Times in words: a claim with its unit, and nanoseconds in the unit that reads best or in a given one.
-ghost use Rattle.text_line.specs.Line.{Put};
+#![tactic(auto, using(text_line::proofs::Putting::putting), unfolding(crate::specs::Times::unit_text, crate::specs::Times::claim_text, crate::specs::Times::nanos_text, crate::specs::Times::thousandths_text, crate::specs::Times::best_text, crate::specs::Times::time_text, crate::specs::Times::millionths_text, crate::specs::Times::in_unit_text))]
+
+ghost use Rattle.std.specs.Prelude.{◌≡◌};
+ghost use Rattle.text_line.specs.Page.{put};
 ghost use Rattle.describe_times.specs.Times.{unit_text, claim_text, nanos_text, thousandths_text, best_text, time_text, millionths_text, in_unit_text};
 
-use text_line::text::{put_decimal, put_grouped, put_six, put_text, put_three};
+use text_line::Page;
 use times::{ClaimedTime, Nanos, Unit, claim_number, claim_unit, nanos_number};
 
 // A unit.
-pub fn put_unit(line: &mut [u8], at: usize, u: Unit) -> usize
-    ensures { Put (unit_text u) at line.old result line.new }
+pub fn put_unit(page: &mut Page, u: Unit)
+    ensures { page.new ≡ put (unit_text u) page.old }
 {
     match u {
-        Unit::Ns => put_text(line, at, b"ns"),
-        Unit::Us => put_text(line, at, b"us"),
-        Unit::Ms => put_text(line, at, b"ms"),
+        Unit::Ns => page.put_text(b"ns"),
+        Unit::Us => page.put_text(b"us"),
+        Unit::Ms => page.put_text(b"ms"),
     }
 }
 
 // A claim, as it is claimed.
-pub fn put_claim(line: &mut [u8], at: usize, c: ClaimedTime) -> usize
-    ensures { Put (claim_text c) at line.old result line.new }
+pub fn put_claim(page: &mut Page, c: ClaimedTime)
+    ensures { page.new ≡ put (claim_text c) page.old }
 {
-    let a = put_decimal(&mut *line, at, claim_number(c));
-    let b = put_text(&mut *line, a, b" ");
-    put_unit(line, b, claim_unit(c))
+    page.put_decimal(claim_number(c));
+    page.put_text(b" ");
+    put_unit(page, claim_unit(c));
 }
 
 // Nanoseconds, thousands grouped.
-pub fn put_nanos(line: &mut [u8], at: usize, n: u64) -> usize
-    ensures { Put (nanos_text n) at line.old result line.new }
+pub fn put_nanos(page: &mut Page, n: u64)
+    ensures { page.new ≡ put (nanos_text n) page.old }
 {
-    let next = put_grouped(&mut *line, at, n);
-    put_text(line, next, b" ns")
+    page.put_grouped(n);
+    page.put_text(b" ns");
 }
 
 // So many thousandths, and what stands behind them.
-fn put_thousandths(line: &mut [u8], at: usize, n: u64, end: &[u8]) -> usize
-    ensures { Put (thousandths_text n end.now) at line.old result line.new }
+fn put_thousandths(page: &mut Page, n: u64, end: &[u8])
+    ensures { page.new ≡ put (thousandths_text n end.now) page.old }
 {
-    let a = put_grouped(&mut *line, at, n / 1000);
-    let b = put_text(&mut *line, a, b".");
-    let c = put_three(&mut *line, b, n);
-    put_text(line, c, end)
+    page.put_grouped(n / 1000);
+    page.put_text(b".");
+    page.put_three(n);
+    page.put_text(end);
 }
 
 // Nanoseconds once more in us, ms or s, from 1 us on.
-fn put_best(line: &mut [u8], at: usize, n: u64) -> usize
-    ensures { Put (best_text n) at line.old result line.new }
+fn put_best(page: &mut Page, n: u64)
+    ensures { page.new ≡ put (best_text n) page.old }
 {
-    if n < 1000 {
-        return at;
+    if n >= 1000 {
+        page.put_text(b" (");
+        if n < 1000000 {
+            put_thousandths(page, n, b" us)");
+        } else if n < 1000000000 {
+            put_thousandths(page, n / 1000, b" ms)");
+        } else {
+            put_thousandths(page, n / 1000000, b" s)");
+        }
     }
-    let next = put_text(&mut *line, at, b" (");
-    if n < 1000000 {
-        return put_thousandths(line, next, n, b" us)");
-    }
-    if n < 1000000000 {
-        return put_thousandths(line, next, n / 1000, b" ms)");
-    }
-    put_thousandths(line, next, n / 1000000, b" s)")
 }
 
 // A time in nanoseconds, and from 1 us on in the unit that reads best, three decimals, the rest cut off.
-pub fn put_time(line: &mut [u8], at: usize, t: Nanos) -> usize
-    ensures { Put (time_text t) at line.old result line.new }
+pub fn put_time(page: &mut Page, t: Nanos)
+    ensures { page.new ≡ put (time_text t) page.old }
 {
     let n = nanos_number(t);
-    let next = put_nanos(&mut *line, at, n);
-    put_best(line, next, n)
+    put_nanos(page, n);
+    put_best(page, n);
 }
 
 // So many millionths of a millisecond.
-fn put_millionths(line: &mut [u8], at: usize, n: u64) -> usize
-    ensures { Put (millionths_text n) at line.old result line.new }
+fn put_millionths(page: &mut Page, n: u64)
+    ensures { page.new ≡ put (millionths_text n) page.old }
 {
-    let a = put_grouped(&mut *line, at, n / 1000000);
-    let b = put_text(&mut *line, a, b".");
-    let c = put_six(&mut *line, b, n);
-    put_text(line, c, b" ms")
+    page.put_grouped(n / 1000000);
+    page.put_text(b".");
+    page.put_six(n);
+    page.put_text(b" ms");
 }
 
 // A time in a unit, exactly.
-pub fn put_in_unit(line: &mut [u8], at: usize, t: Nanos, u: Unit) -> usize
-    ensures { Put (in_unit_text t u) at line.old result line.new }
+pub fn put_in_unit(page: &mut Page, t: Nanos, u: Unit)
+    ensures { page.new ≡ put (in_unit_text t u) page.old }
 {
     let n = nanos_number(t);
     match u {
-        Unit::Ns => put_nanos(line, at, n),
-        Unit::Us => put_thousandths(line, at, n, b" us"),
-        Unit::Ms => put_millionths(line, at, n),
+        Unit::Ns => put_nanos(page, n),
+        Unit::Us => put_thousandths(page, n, b" us"),
+        Unit::Ms => put_millionths(page, n),
     }
 }

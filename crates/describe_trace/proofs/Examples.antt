@@ -1,6 +1,7 @@
 -- Answers in words, as antt computes them.
 use mathlib.Core.Path.{◌≡◌, refl}
 use mathlib.Core.List.{[], ◌∷◌}
+use Rattle.std.specs.Prelude.{Some}
 use Rattle.messages.specs.declared.Message.TheVariants.{Frs}
 use Rattle.records.specs.declared.Record.TheVariants.{Message, LinkUp}
 use Rattle.bits.specs.Text.{chars}
@@ -17,6 +18,6 @@ up_twice : answer_text LinkUp (23 ∷ 0 ∷ 0 ∷ 0 ∷ 0 ∷ 0 ∷ 0 ∷ 0 ∷ 
 unfolding answer_text kind_of status_text wrong_state_text interrupts_text count_text data_of reads_of data_text listed_text text_if hex_of decimal_from glyph_of
 up_twice = refl
 
-frs-came : answer_text (Message (Frs 0x0100 3)) (0 ∷ 1 ∷ 1 ∷ 0 ∷ 0 ∷ 0 ∷ 0 ∷ 0 ∷ []) ≡ chars " -> 0 done; interrupts Received; FRS queued 1"
+frs-came : answer_text (Message (Some (Frs 0x0100 3))) (0 ∷ 1 ∷ 1 ∷ 0 ∷ 0 ∷ 0 ∷ 0 ∷ 0 ∷ []) ≡ chars " -> 0 done; interrupts Received; FRS queued 1"
 unfolding answer_text kind_of status_text interrupts_text count_text data_of reads_of data_text listed_text text_if hex_of decimal_from glyph_of
 frs-came = refl

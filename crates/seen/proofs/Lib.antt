@@ -1,3 +1,2 @@
 pub mod Sizes
 pub mod Rests
-pub mod Words

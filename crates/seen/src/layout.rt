@@ -1,10 +1,11 @@
 // A line of a file of seen times, read from its bytes.
-ghost use Rattle.std.specs.Prelude.{◌≡◌, ◌+◌, drop};
+ghost use Rattle.std.specs.Prelude.{◌≡◌, ◌+◌, ◌&&◌, eqb, drop};
 ghost use Rattle.seen_grammar.specs.Reading.{line_of};
 ghost use Rattle.seen.specs.inner.Sizes.{first_size};
 
-use seen_grammar::{SeenLine, SeenLineRead};
+use seen_grammar::SeenLine;
 use sheet::{number_up_to, unit_at};
+use sheet_grammar::{NumberRead, UnitRead};
 use text_fields::line_end;
 use times::claimed;
 
@@ -13,22 +14,27 @@ const SLOT_DIGITS: usize = 10;
 
 const TIME_DIGITS: usize = 16;
 
-// Whether bytes are a line, and what it says.
-pub fn line_of(s: &[u8]) -> SeenLineRead
+// Whether the three fields fit, and nothing stands after them.
+fn all_fit(slot: NumberRead, time: NumberRead, u: UnitRead, end: usize) -> bool
+    ensures { result ≡ (slot.fits && time.fits && u.fits && eqb u.next end) }
+{
+    slot.fits && time.fits && u.fits && u.next == end
+}
+
+// What bytes say as a line, if they are one.
+pub fn line_of(s: &[u8]) -> Option<SeenLine>
     ensures { result ≡ line_of s.now }
 {
     let slot = number_up_to(s, 0, SLOT_DIGITS);
     let time = number_up_to(s, slot.next, TIME_DIGITS);
     let u = unit_at(s, time.next);
-    let n = s.len();
-    let unit = u.unit;
-    let line = SeenLine {
-        slot: slot.number,
-        time: claimed(time.number, unit),
-    };
-    SeenLineRead {
-        fits: slot.fits & time.fits & u.fits & (u.next == n),
-        line: line,
+    if all_fit(slot, time, u, s.len()) {
+        Some(SeenLine {
+            slot: slot.number,
+            time: claimed(time.number, u.unit),
+        })
+    } else {
+        None
     }
 }
 

@@ -1,10 +1,10 @@
 // A file of seen times, line by line.
 ghost use Rattle.std.specs.Prelude.{◌≡◌, ◌<◌};
-ghost use Rattle.seen_grammar.specs.Reading.{is_slot, is_named, is_too_long, refusal_of, is_none, with_bit, with_time, refuses, seen_of};
+ghost use Rattle.seen_grammar.specs.Reading.{is_slot, is_named, is_too_long, refusal_of, with_time, refuses, seen_of};
 
 use crate::layout::{line_after, line_of};
 use readiness::{Moments, no_moments};
-use seen_grammar::{SeenLine, SeenLineRead, SeenRead, SeenRefusal};
+use seen_grammar::{SeenLine, SeenRead, SeenRefusal};
 use times::{ClaimedTime, claimed_nanos, nanos_number};
 
 // No seen time is longer.
@@ -12,11 +12,13 @@ const LONGEST_SEEN: u64 = 2000000000000000;
 
 // ---- Refusals
 
+// Kept: `sheet` has the same three tests over lines and limits of its own; each is one line here and there.
 // Whether the card has the slot.
+#[tactic(auto, unfolding(seen_grammar::specs::Reading::is_slot))]
 fn is_slot(slots: usize, slot: u64) -> bool
     ensures { result ≡ is_slot slots slot }
 {
-    (slot < (slots as u64)) & (slot < 32)
+    slot < slots as u64 && slot < 32
 }
 
 // Whether the slot was named before.
@@ -36,64 +38,36 @@ fn is_too_long(c: ClaimedTime) -> bool
     LONGEST_SEEN < nanos_number(claimed_nanos(c))
 }
 
-// The first refusal that applies to a line.
-fn refusal_of(slots: usize, named: [bool; 32], l: SeenLineRead) -> SeenRefusal
+// The line, or the first refusal that applies to it.
+#[tactic(auto, unfolding(seen_grammar::specs::Reading::refusal_of))]
+fn refusal_of(slots: usize, named: [bool; 32], l: Option<SeenLine>) -> Result<SeenLine, SeenRefusal>
     ensures { result ≡ refusal_of slots named l }
 {
-    if !l.fits {
-        return SeenRefusal::Layout;
-    }
-    let line = l.line;
-    if !is_slot(slots, line.slot) {
-        return SeenRefusal::NoSlot;
-    }
-    if is_named(named, line.slot) {
-        return SeenRefusal::NamedBefore;
-    }
-    if is_too_long(line.time) {
-        SeenRefusal::TooLong
+    let Some(l) = l else {
+        return Err(SeenRefusal::Layout);
+    };
+    if !is_slot(slots, l.slot) {
+        Err(SeenRefusal::NoSlot)
+    } else if is_named(named, l.slot) {
+        Err(SeenRefusal::NamedBefore)
+    } else if is_too_long(l.time) {
+        Err(SeenRefusal::TooLong)
     } else {
-        SeenRefusal::NoRefusal
-    }
-}
-
-fn is_none(why: SeenRefusal) -> bool
-    ensures { result ≡ is_none why }
-{
-    match why {
-        SeenRefusal::NoRefusal => true,
-        SeenRefusal::Layout => false,
-        SeenRefusal::NoSlot => false,
-        SeenRefusal::NamedBefore => false,
-        SeenRefusal::TooLong => false,
+        Ok(l)
     }
 }
 
 // ---- Times
 
-// A word with bit k set.
-fn with_bit(word: u32, k: usize) -> u32
-    requires { k < 32 }
-    ensures { result ≡ with_bit word k }
-{
-    let one: u32 = 1;
-    word | (one << k)
-}
-
 // The seen times with that of a line.
+#[tactic(auto, unfolding(seen_grammar::specs::Reading::with_time))]
 fn with_time(l: SeenLine, m: Moments) -> Moments
     requires { l.slot < 32 }
     ensures { result ≡ with_time l m }
 {
-    let slot = l.slot as usize;
-    let mut at_ns = m.at_ns;
-    let t = nanos_number(claimed_nanos(l.time));
-    at_ns[slot] = t;
-    let made = with_bit(m.made, slot);
-    Moments {
-        made: made,
-        at_ns: at_ns,
-    }
+    let mut times = m;
+    times.by_slot[l.slot as usize] = Some(claimed_nanos(l.time));
+    times
 }
 
 // ---- Files
@@ -117,18 +91,18 @@ pub fn read(text: &[u8], slots: usize) -> SeenRead
     let mut at: usize = 0;
     let mut count: usize = 0;
     let len = text.len();
+    // Kept: each turn reads on from where the last line ended, so no range or slice gives the places.
     while at < len {
         let end = line_after(text, at);
-        let l = line_of(&text[at..end]);
         count += 1;
-        let why = refusal_of(slots, named, l);
-        if !is_none(why) {
-            return refused(why, count);
+        match refusal_of(slots, named, line_of(&text[at..end])) {
+            Err(why) => return refused(why, count),
+            Ok(l) => {
+                times = with_time(l, times);
+                named[l.slot as usize] = true;
+                at = end;
+            }
         }
-        let line = l.line;
-        times = with_time(line, times);
-        named[line.slot as usize] = true;
-        at = end;
     }
     SeenRead {
         refusal: SeenRefusal::NoRefusal,

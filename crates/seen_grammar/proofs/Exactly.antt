@@ -8,19 +8,20 @@ use lib.Dec.{eqb, ltb}
 use lib.ListN.{length, get_or, set, replicate, length-append, length-set, length-replicate}
 use lib.Seq.{get_or-set_same, get_or-set_other}
 use borrow.Author.Tests.{eqb-true, eqb-false, ltb-true}
-use Rattle.bits.proofs.Tests.{split, both_right, not_both, untrue}
+use Rattle.bits.proofs.Tests.{split, both_right}
 use Rattle.bits.proofs.Lists.{get_or_same}
 use Rattle.readiness.specs.declared.Moments.{Moments}
 use Rattle.readiness.specs.MadeReady.{no_moments}
 use Rattle.sheet_grammar.specs.Reading.{lines_of}
 use Rattle.sheet_grammar.proofs.Lines.{cut-first}
 use Rattle.seen_grammar.specs.declared.SeenLine.{SeenLine}
-use Rattle.seen_grammar.specs.declared.SeenLineRead.{SeenLineRead}
+use Rattle.std.specs.Prelude.{Option, Some, None, Result, Ok, Err}
+use Rattle.std.proofs.lemmas.Option.{none-some}
 use Rattle.seen_grammar.specs.declared.SeenRefusal.{SeenRefusal}
-use Rattle.seen_grammar.specs.declared.SeenRefusal.TheVariants.{NoRefusal, Layout, NoSlot, NamedBefore, TooLong}
+use Rattle.seen_grammar.specs.declared.SeenRefusal.TheVariants.{Layout, NoSlot, NamedBefore, TooLong}
 use Rattle.seen_grammar.specs.declared.SeenRead.{SeenRead}
 use Rattle.seen_grammar.specs.Grammar.{Line, File}
-use Rattle.seen_grammar.specs.Reading.{line_of, is_slot, is_too_long, refusal_of, is_none, with_time, refuses, read_lines, seen_of}
+use Rattle.seen_grammar.specs.Reading.{line_of, is_slot, is_too_long, refusal_of, with_time, refuses, read_on, read_lines, seen_of}
 use Rattle.seen_grammar.specs.Exactly.{named_by, Fits, AllFit, with_times, Refused, Outcome, Exactly}
 use Rattle.seen_grammar.proofs.Lines.{line_read, line_found, line_some, lines_first}
 
@@ -59,28 +60,31 @@ marks_more {marks} {before} l h m =
 
 -- ---- one line
 
+-- something was read, or nothing
+none_or_some : {A P : Type 0} (o : Option A) → (o ≡ None → P) → ((a : A) → o ≡ Some a → P) → P
+none_or_some None f g = f refl
+none_or_some (Some a) f g = g a refl
+
 module _ (slots n : ℕ) (marks : List Bool) (now : Moments) where
   -- the reading after a line: it goes on with other lines, or stops
-  abbrev onward : SeenRefusal → List (List ℕ) → SeenLine → SeenRead
-  onward why others l =
-      cond (is_none why) (read_lines slots (suc n) others (set marks l.slot true) (with_time l now)) (refuses why (suc n))
+  abbrev onward : List (List ℕ) → Result SeenLine SeenRefusal → SeenRead
+  onward others r = read_on n r (λ (l : SeenLine). read_lines slots (suc n) others (set marks l.slot true) (with_time l now))
 
   -- a line of the grammar is refused or not by three tests in turn
   line_step : {first : List ℕ} {l : SeenLine} (rest : List ℕ) (t u v : Bool) → Line first l
       → is_slot slots l.slot ≡ t → get_or marks l.slot false ≡ u → is_too_long l.time ≡ v
-      → read_lines slots n (lines_of (first ++ rest)) marks now ≡ onward (cond (not t) NoSlot (cond u NamedBefore (cond v TooLong NoRefusal))) (lines_of rest) l
+      → read_lines slots n (lines_of (first ++ rest)) marks now
+      ≡ onward (lines_of rest) (cond (not t) (Err NoSlot) (cond u (Err NamedBefore) (cond v (Err TooLong) (Ok l))))
   unfolding read_lines refusal_of
   line_step {first} {l} rest t u v h d e f =
       ap (λ (lines : List (List ℕ)). read_lines slots n lines marks now) (lines_first rest h)
-      ∙ ap (λ (r : SeenLineRead). onward (refusal_of slots marks r) (lines_of rest) r.line) (line_read h)
-      ∙ λ i. onward (cond (not (d i)) NoSlot (cond (e i) NamedBefore (cond (f i) TooLong NoRefusal))) (lines_of rest) l
+      ∙ ap (λ (o : Option SeenLine). onward (lines_of rest) (refusal_of slots marks o)) (line_read h)
+      ∙ λ i. onward (lines_of rest) (cond (not (d i)) (Err NoSlot) (cond (e i) (Err NamedBefore) (cond (f i) (Err TooLong) (Ok l))))
 
   -- bytes that are no line of the grammar
-  bad_step : (line : List ℕ) (lines : List (List ℕ)) → (line_of line).fits ≡ false → read_lines slots n (line ∷ lines) marks now ≡ refuses Layout (suc n)
-  unfolding read_lines refusal_of is_none
-  bad_step line lines e =
-      let l = (line_of line).line in
-      ap (λ (b : Bool). onward (cond (not b) Layout (cond (not (is_slot slots l.slot)) NoSlot (cond (get_or marks l.slot false) NamedBefore (cond (is_too_long l.time) TooLong NoRefusal)))) lines l) e
+  bad_step : (line : List ℕ) (lines : List (List ℕ)) → line_of line ≡ None → read_lines slots n (line ∷ lines) marks now ≡ refuses Layout (suc n)
+  unfolding read_lines refusal_of
+  bad_step line lines e = ap (λ (o : Option SeenLine). onward lines (refusal_of slots marks o)) e
 
   -- a text that isn't empty and starts with no line of the grammar
   none_step : (s : List ℕ) → (s ≡ [] → ⊥) → ((first more : List ℕ) (l : SeenLine) → Line first l → s ≡ first ++ more → ⊥)
@@ -89,7 +93,8 @@ module _ (slots n : ℕ) (marks : List Bool) (now : Moments) where
   none_step (b ∷ s) some none =
       let c = cut-first b s in
       ap (λ (lines : List (List ℕ)). read_lines slots n lines marks now) c.cut
-      ∙ bad_step c.line (lines_of c.rest) (untrue (line_of c.line).fits (λ e. none c.line c.rest (line_of c.line).line (line_found c.line e) c.text))
+      ∙ bad_step c.line (lines_of c.rest)
+      (none_or_some (line_of c.line) (λ e. e) (λ l e. absurd (none c.line c.rest l (line_found c.line l e) c.text)))
 
 module _ {marks : List Bool} {before : List SeenLine} (slots n : ℕ) (now : Moments) (m : Marks marks before) where
   -- the mark of a slot that is there
@@ -99,12 +104,10 @@ module _ {marks : List Bool} {before : List SeenLine} (slots n : ℕ) (now : Mom
   -- after a line that fits the reading goes on
   fits_step : {first : List ℕ} {l : SeenLine} (rest : List ℕ) → Line first l → Fits slots before l
       → read_lines slots n (lines_of (first ++ rest)) marks now ≡ read_lines slots (suc n) (lines_of rest) (set marks l.slot true) (with_time l now)
-  unfolding is_none
   fits_step {l = l} rest h f = line_step slots n marks now rest true false false h f.there (mark_of l f.there ∙ f.fresh) f.short
 
   -- what is refused gives why, and its line
   refused-step : {rest : List ℕ} {why : SeenRefusal} → Refused slots before rest why → read_lines slots n (lines_of rest) marks now ≡ refuses why (suc n)
-  unfolding is_none
   refused-step (Refused.layout {rest} some none) = none_step slots n marks now rest some none
   refused-step (Refused.no_slot more h e) = line_step slots n marks now more false _ _ h e refl refl
   refused-step (Refused.named {l = l} more h e f) = line_step slots n marks now more true true _ h e (mark_of l e ∙ f) refl
@@ -204,14 +207,14 @@ parts_of zero slots before s h = absurd (omega arith)
 parts_of (suc most) slots before [] h = Parts.all File.none AllFit.none
 parts_of (suc most) slots before (b ∷ s) h =
     let c = cut-first b s in
-    split (line_of c.line).fits
-    (λ e. let is = line_found c.line e in
-    let shorter : length c.rest < most = omega (arith, line_some is, length-append c.line c.rest, ap length c.text) in
-    subst (Parts slots before) (sym c.text) (part_line slots before c.rest is (parts_of most slots ((line_of c.line).line ∷ before) c.rest shorter)))
+    none_or_some (line_of c.line)
     (λ e. Parts.up_to File.none AllFit.none
     (Refused.layout cons≢nil (λ first more l is t.
     let same : c.line ≡ first = ap first_line (sym c.cut ∙ ap lines_of t ∙ lines_first more is) in
-    not_both (ap (λ (x : List ℕ). (line_of x).fits) same ∙ ap (λ (r : SeenLineRead). r.fits) (line_read is)) e)))
+    none-some l (sym e ∙ ap line_of same ∙ line_read is))))
+    (λ l e. let is = line_found c.line l e in
+    let shorter : length c.rest < most = omega (arith, line_some is, length-append c.line c.rest, ap length c.text) in
+    subst (Parts slots before) (sym c.text) (part_line slots before c.rest is (parts_of most slots (l ∷ before) c.rest shorter)))
 
 -- so every text has an outcome
 outcome_of : {slots : ℕ} {text : List ℕ} → Parts slots [] text → (r : SeenRead) × Outcome slots text r

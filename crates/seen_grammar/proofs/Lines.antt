@@ -1,6 +1,6 @@
 -- Lines of a file of seen times: a line of the grammar is read as what it says, and what is read as a line is one.
 use mathlib.Core.Path.{◌≡◌, refl, sym, ap, subst, ◌∙◌}
-use mathlib.Core.Bool.{Bool, true, ◌&&◌}
+use mathlib.Core.Bool.{Bool, ◌&&◌, cond}
 use mathlib.Core.List.{List, [], ◌∷◌, ◌++◌, append-nil}
 use Prim.Native.Nat.{ℕ, ◌≤◌}
 use native.Mathlib.Omega.{arith}
@@ -15,7 +15,8 @@ use Rattle.sheet_grammar.specs.Reading.{lines_of}
 use Rattle.sheet_grammar.proofs.Fields.{Stands, joined, first_part, second_part, number_read_lem, number_found, unit_read_lem, unit_found}
 use Rattle.sheet_grammar.proofs.Lines.{end_ends, number-ends, unit_ends}
 use Rattle.seen_grammar.specs.declared.SeenLine.{SeenLine}
-use Rattle.seen_grammar.specs.declared.SeenLineRead.{SeenLineRead}
+use Rattle.std.specs.Prelude.{Option, Some, None}
+use Rattle.std.proofs.lemmas.Option.{cond_some}
 use Rattle.seen_grammar.specs.Grammar.{most_time_digits, Line}
 use Rattle.seen_grammar.specs.Grammar.Line.{line}
 use Rattle.seen_grammar.specs.Reading.{line_of}
@@ -23,15 +24,18 @@ use Rattle.seen_grammar.specs.Reading.{line_of}
 -- ---- what is read as a line
 
 -- what is read as a line is one
-pub line_found : (s : List ℕ) → (line_of s).fits ≡ true → Line s (line_of s).line
+pub line_found : (s : List ℕ) (l : SeenLine) → line_of s ≡ Some l → Line s l
 unfolding line_of
-line_found s e =
+line_found s l h =
     let slot = number_at 0 s in
     let time = number_up_to most_time_digits slot.next s in
     let u = unit_at time.next s in
     let two = slot.fits && time.fits in
     let three = two && u.fits in
     let whole = eqb u.next (length s) in
+    let said : SeenLine = record { slot = slot.number; time = claim time.number u.unit } in
+    let both = cond_some (three && whole) said l h in
+    let e = both.0 in
     let e3 = both_left three whole e in
     let e2 = both_left two u.fits e3 in
     let end : u.next ≡ length s = eqb-true u.next (length s) (both_right three whole e) in
@@ -42,16 +46,15 @@ line_found s e =
     let text : List ℕ = a.text ++ (space ∷ b.text ++ (space ∷ g.text ++ (line_end ∷ []))) in
     let past : length s ≤ u.next = omega arith in
     let is : s ≡ text = all.whole ∙ ap (λ (r : List ℕ). text ++ r) (drop_of_length-le s past) ∙ append-nil text in
-    subst (λ (t : List ℕ). Line t (record { slot = slot.number; time = claim time.number u.unit })) (sym is) (line a.is b.is g.is)
+    subst (λ (k : SeenLine). Line s k) both.1 (subst (λ (t : List ℕ). Line t said) (sym is) (line a.is b.is g.is))
 
 -- ---- a line by its fields
 
-unfoldable pub line_by : (s : List ℕ) (slot time : NumberRead) → UnitRead → SeenLineRead
+unfoldable pub line_by : (s : List ℕ) (slot time : NumberRead) → UnitRead → Option SeenLine
 line_by s slot time u =
-    record {
-      fits = slot.fits && time.fits && u.fits && eqb u.next (length s);
-      line = record { slot = slot.number; time = claim time.number u.unit };
-    }
+    cond (slot.fits && time.fits && u.fits && eqb u.next (length s))
+    (Some (record { slot = slot.number; time = claim time.number u.unit }))
+    None
 
 -- each field is read where the one before it ended
 pub line_by_lem : (s : List ℕ) {slot time : NumberRead} {u : UnitRead} → number_at 0 s ≡ slot → number_up_to most_time_digits slot.next s ≡ time → unit_at time.next s ≡ u
@@ -59,14 +62,14 @@ pub line_by_lem : (s : List ℕ) {slot time : NumberRead} {u : UnitRead} → num
 unfolding line_of line_by
 line_by_lem s {slot} {time} a b c = ap from1 a ∙ ap (from2 slot) b ∙ ap (line_by s slot time) c
   where
-    from2 : (v w : NumberRead) → SeenLineRead
+    from2 : (v w : NumberRead) → Option SeenLine
     from2 v w = line_by s v w (unit_at w.next s)
 
-    from1 : NumberRead → SeenLineRead
+    from1 : NumberRead → Option SeenLine
     from1 v = from2 v (number_up_to most_time_digits v.next s)
 
 -- a line of the grammar is read as what it says
-pub line_read : {first : List ℕ} {l : SeenLine} → Line first l → line_of first ≡ record { fits = true; line = l }
+pub line_read : {first : List ℕ} {l : SeenLine} → Line first l → line_of first ≡ Some l
 unfolding line_by
 line_read (line {slot} {seen} {unit} {n} {t} {u} is_slot is_seen is_unit) =
     let at2 : List ℕ = unit ++ (line_end ∷ []) in
@@ -77,7 +80,7 @@ line_read (line {slot} {seen} {unit} {n} {t} {u} is_slot is_seen is_unit) =
     let here1 = second_part slot space at1 here0 in
     let here2 = second_part seen space at2 here1 in
     line_by_lem s (number_read_lem is_slot (first_part slot space at1 here0)) (number_read_lem is_seen (first_part seen space at2 here1)) (unit_read_lem is_unit here2)
-    ∙ ap (λ (b : Bool). record { fits = b; line = record { slot = n; time = claim t u } }) (eq-eqb (length s) (length s) refl)
+    ∙ ap (λ (b : Bool). cond b (Some (record { slot = n; time = claim t u })) None) (eq-eqb (length s) (length s) refl)
 
 -- ---- a line of the grammar among the lines of a text
 

@@ -1,77 +1,63 @@
 -- The moments that an accepted file gives, slot by slot.
+use Rattle.times.specs.declared.Nanos.{Nanos}
+use Rattle.std.specs.Prelude.{Option, None, Some}
 use Prim.Native.Nat.{ℕ, ◌*◌, ◌<◌, min}
 use mathlib.Core.Path.{◌≡◌, refl, sym, ap, ◌∙◌}
-use mathlib.Core.Bool.{Bool, true, false, ◌||◌, cond}
+use mathlib.Core.Bool.{Bool, true, false, cond}
 use mathlib.Core.List.{List}
 use native.Mathlib.Omega.{arith}
 use lib.Dec.{eqb}
-use lib.ListN.{length, get_or, length-set, length-replicate}
+use lib.ListN.{length, get_or, length-set, length-replicate, get_or-replicate}
 use lib.Seq.{get_or-set_same, get_or-set_other}
 use borrow.Author.Tests.{eqb-true, eqb-false, ltb-true, ltb-false, lt-ltb}
-use Rattle.bits.specs.Bits.{bit}
-use Rattle.bits.proofs.Bits.{bit_word, bit_none}
 use Rattle.bits.proofs.Tests.{split}
 use Rattle.times.specs.declared.ClaimedTime.{ClaimedTime}
 use Rattle.times.specs.Moments.{greatest_nanos}
 use Rattle.times.specs.Claims.{nanos_in, claimed_nanos}
-use Rattle.readiness.specs.declared.Moment.{Moment}
-use Rattle.readiness.specs.declared.Moment.TheVariants.{Never, At}
 use Rattle.readiness.specs.declared.Moments.{Moments}
-use Rattle.readiness.specs.MadeReady.{moment_in, moments_of, no_moments}
-use Rattle.readiness.proofs.KeptMoments.{moment_at}
+use Rattle.readiness.specs.MadeReady.{no_moments}
 use Rattle.seen_grammar.specs.declared.SeenLine.{SeenLine}
 use Rattle.seen_grammar.specs.declared.SeenRead.{SeenRead}
-use Rattle.seen_grammar.specs.Reading.{is_too_long, longest_seen, with_bit, with_time, accepts}
+use Rattle.seen_grammar.specs.Reading.{is_too_long, longest_seen, with_time, accepts}
 use Rattle.seen_grammar.specs.Exactly.{AllFit, with_times, Outcome}
 use Rattle.seen_grammar.specs.Results.{seen_by, Results}
 use Rattle.seen_grammar.proofs.Exactly.{exactly, slot_below}
 
 -- ---- one line
 
-abbrev moment_of : Moments → ℕ → Moment
-moment_of m slot = get_or (moments_of m) slot Never
+abbrev moment_of : Moments → ℕ → Option Nanos
+moment_of m slot = get_or m.by_slot slot None
 
--- the moment of a slot, by its bit and its number
-moment_of_lem : (m : Moments) (slot : ℕ) → length m.at_ns ≡ 32 → slot < 32 → moment_of m slot ≡ moment_in (bit m.made slot) (get_or m.at_ns slot 0)
-moment_of_lem m slot n h =
-    moment_at 0 m.made m.at_ns slot (omega (arith, n)) ∙ ap (λ (k : ℕ). moment_in (bit m.made k) (get_or m.at_ns slot 0)) (omega arith)
-
-module _ (l : SeenLine) (m : Moments) (n : length m.at_ns ≡ 32) (low : l.slot < 32) where
-  times_32 : length (with_time l m).at_ns ≡ 32
+module _ (l : SeenLine) (m : Moments) (n : length m.by_slot ≡ 32) (low : l.slot < 32) where
+  times_32 : length (with_time l m).by_slot ≡ 32
   unfolding with_time
-  times_32 = length-set m.at_ns l.slot (claimed_nanos l.time).0 ∙ n
+  times_32 = length-set m.by_slot l.slot (Some (claimed_nanos l.time)) ∙ n
 
-  one_more : (slot : ℕ) → slot < 32 → moment_of (with_time l m) slot ≡ cond (eqb l.slot slot) (At (claimed_nanos l.time)) (moment_of m slot)
-  unfolding with_time with_bit
-  one_more slot h =
-      moment_of_lem (with_time l m) slot times_32 h
-      ∙ ap (λ (b : Bool). moment_in b (get_or (with_time l m).at_ns slot 0)) (bit_word (λ i. eqb l.slot i || bit m.made i) slot h)
-      ∙ split (eqb l.slot slot)
-      (λ e. let q : l.slot ≡ slot = eqb-true l.slot slot e in
-      let t : get_or (with_time l m).at_ns slot 0 ≡ (claimed_nanos l.time).0 =
-      ap (λ (i : ℕ). get_or (with_time l m).at_ns i 0) (sym q) ∙ get_or-set_same m.at_ns l.slot (claimed_nanos l.time).0 0 (omega (arith, n)) in
-      ap (λ (b : Bool). moment_in (b || bit m.made slot) (get_or (with_time l m).at_ns slot 0)) e ∙ ap (moment_in true) t
-      ∙ sym (ap (λ (b : Bool). cond b (At (claimed_nanos l.time)) (moment_of m slot)) e))
-      (λ e. ap (λ (b : Bool). moment_in (b || bit m.made slot) (get_or (with_time l m).at_ns slot 0)) e
-      ∙ ap (moment_in (bit m.made slot)) (get_or-set_other m.at_ns l.slot slot (claimed_nanos l.time).0 0 (λ q. eqb-false l.slot slot e (sym q)))
-      ∙ sym (moment_of_lem m slot n h)
-      ∙ sym (ap (λ (b : Bool). cond b (At (claimed_nanos l.time)) (moment_of m slot)) e))
+  one_more : (slot : ℕ) → moment_of (with_time l m) slot ≡ cond (eqb l.slot slot) (Some (claimed_nanos l.time)) (moment_of m slot)
+  unfolding with_time
+  one_more slot =
+      split (eqb l.slot slot)
+      (λ e. ap (λ (i : ℕ). get_or (with_time l m).by_slot i None) (sym (eqb-true l.slot slot e))
+      ∙ get_or-set_same m.by_slot l.slot (Some (claimed_nanos l.time)) None (omega (arith, n))
+      ∙ sym (ap (λ (b : Bool). cond b (Some (claimed_nanos l.time)) (moment_of m slot)) e))
+      (λ e. get_or-set_other m.by_slot l.slot slot (Some (claimed_nanos l.time)) None (λ q. eqb-false l.slot slot e (sym q))
+      ∙ sym (ap (λ (b : Bool). cond b (Some (claimed_nanos l.time)) (moment_of m slot)) e))
 
 -- ---- all lines
 
-all_lines : {slots : ℕ} {before ls : List SeenLine} (m : Moments) → length m.at_ns ≡ 32 → AllFit slots before ls → (slot : ℕ) → slot < 32
+all_lines : {slots : ℕ} {before ls : List SeenLine} (m : Moments) → length m.by_slot ≡ 32 → AllFit slots before ls → (slot : ℕ) → slot < 32
     → moment_of (with_times ls m) slot ≡ seen_by ls slot (moment_of m slot)
 unfolding with_times seen_by
 all_lines m n AllFit.none slot h = refl
 all_lines {slots} m n (AllFit.more {ls = ls} {l = l} f a) slot h =
     let low = slot_below slots l f.there in
-    all_lines (with_time l m) (times_32 l m n low) a slot h ∙ ap (seen_by ls slot) (one_more l m n low slot h)
+    all_lines (with_time l m) (times_32 l m n low) a slot h ∙ ap (seen_by ls slot) (one_more l m n low slot)
 
-none_32 : length no_moments.at_ns ≡ 32
-none_32 = length-replicate {A = ℕ} 32 0
+none_32 : length no_moments.by_slot ≡ 32
+none_32 = length-replicate {A = Option Nanos} 32 None
 
-none_yet : (slot : ℕ) → slot < 32 → moment_of no_moments slot ≡ Never
-none_yet slot h = moment_of_lem no_moments slot none_32 h ∙ ap (λ (b : Bool). moment_in b (get_or no_moments.at_ns slot 0)) (bit_none slot)
+none_yet : (slot : ℕ) → slot < 32 → moment_of no_moments slot ≡ None
+none_yet slot h = get_or-replicate {A = Option Nanos} 32 slot None None h
 
 -- ---- claims
 

@@ -1,6 +1,5 @@
 -- What a file of seen times gives (02, Q-7).
-use Rattle.std.specs.Prelude.{ℕ, suc, Bool, true, false, ◌&&◌, ◌||◌, not, cond, List, [], ◌∷◌, eqb, ltb, length, get_or, set, replicate}
-use Rattle.bits.specs.Bits.{bit, word}
+use Rattle.std.specs.Prelude.{ℕ, suc, Bool, true, false, ◌&&◌, not, cond, List, [], ◌∷◌, eqb, ltb, length, get_or, set, replicate, Option, Some, None, Result, Ok, Err}
 use Rattle.times.specs.declared.ClaimedTime.{ClaimedTime}
 use Rattle.times.specs.Claims.{claimed_nanos}
 use Rattle.readiness.specs.declared.Moments.{Moments}
@@ -8,7 +7,6 @@ use Rattle.readiness.specs.MadeReady.{no_moments}
 use Rattle.sheet_grammar.specs.Layout.{number_at, number_up_to, unit_at, claim}
 use Rattle.sheet_grammar.specs.Reading.{lines_of}
 use Rattle.seen_grammar.specs.declared.SeenLine.{SeenLine}
-use Rattle.seen_grammar.specs.declared.SeenLineRead.{SeenLineRead}
 use Rattle.seen_grammar.specs.declared.SeenRefusal.{SeenRefusal}
 use Rattle.seen_grammar.specs.declared.SeenRefusal.TheVariants.{NoRefusal, Layout, NoSlot, NamedBefore, TooLong}
 use Rattle.seen_grammar.specs.declared.SeenRead.{SeenRead}
@@ -17,15 +15,14 @@ use Rattle.seen_grammar.specs.Grammar.{most_time_digits}
 -- ---- lines
 
 -- the three fields one after the other, and nothing after them
-unfoldable pub line_of : List ℕ → SeenLineRead
+unfoldable pub line_of : List ℕ → Option SeenLine
 line_of s =
     let slot = number_at 0 s in
     let time = number_up_to most_time_digits slot.next s in
     let u = unit_at time.next s in
-    record {
-      fits = slot.fits && time.fits && u.fits && eqb u.next (length s);
-      line = record { slot = slot.number; time = claim time.number u.unit };
-    }
+    cond (slot.fits && time.fits && u.fits && eqb u.next (length s))
+    (Some (record { slot = slot.number; time = claim time.number u.unit }))
+    None
 
 -- ---- refusals
 
@@ -44,29 +41,18 @@ longest_seen = 2000000000000000
 unfoldable pub is_too_long : ClaimedTime → Bool
 is_too_long c = ltb longest_seen (claimed_nanos c).0
 
--- the first that applies to a line
-unfoldable pub refusal_of : (slots : ℕ) (named : List Bool) → SeenLineRead → SeenRefusal
-refusal_of slots named l =
-    cond (not l.fits) Layout
-    (cond (not (is_slot slots l.line.slot)) NoSlot
-    (cond (is_named named l.line.slot) NamedBefore (cond (is_too_long l.line.time) TooLong NoRefusal)))
-
-unfoldable pub is_none : SeenRefusal → Bool
-is_none NoRefusal = true
-is_none Layout = false
-is_none NoSlot = false
-is_none NamedBefore = false
-is_none TooLong = false
+-- the first that applies to a line, or the line
+unfoldable pub refusal_of : (slots : ℕ) (named : List Bool) → Option SeenLine → Result SeenLine SeenRefusal
+refusal_of slots named None = Err Layout
+refusal_of slots named (Some l) =
+    cond (not (is_slot slots l.slot)) (Err NoSlot)
+    (cond (is_named named l.slot) (Err NamedBefore) (cond (is_too_long l.time) (Err TooLong) (Ok l)))
 
 -- ---- times
 
--- a word with bit k set
-unfoldable pub with_bit : (w k : ℕ) → ℕ
-with_bit w k = word λ i. eqb k i || bit w i
-
 -- the seen times with that of a line
 unfoldable pub with_time : SeenLine → Moments → Moments
-with_time l m = record { made = with_bit m.made l.slot; at_ns = set m.at_ns l.slot (claimed_nanos l.time).0 }
+with_time l m = record { by_slot = set m.by_slot l.slot (Some (claimed_nanos l.time)) }
 
 -- ---- files
 
@@ -76,13 +62,16 @@ accepts m = record { refusal = NoRefusal; line = 0; times = m }
 abbrev pub refuses : SeenRefusal → (line : ℕ) → SeenRead
 refuses refusal line = record { refusal = refusal; line = line; times = no_moments }
 
+-- after line n + 1 the reading goes on, or the line refuses the file
+abbrev pub read_on : (n : ℕ) → Result SeenLine SeenRefusal → (SeenLine → SeenRead) → SeenRead
+read_on n (Ok l) rest = rest l
+read_on n (Err why) rest = refuses why (suc n)
+
 -- lines are read in turn, after n others; the earliest bad one refuses the file
 unfoldable pub read_lines : (slots n : ℕ) → List (List ℕ) → (named : List Bool) → Moments → SeenRead
 read_lines slots n [] named m = accepts m
 read_lines slots n (line ∷ lines) named m =
-    let l = line_of line in
-    let refusal = refusal_of slots named l in
-    cond (is_none refusal) (read_lines slots (suc n) lines (set named l.line.slot true) (with_time l.line m)) (refuses refusal (suc n))
+    read_on n (refusal_of slots named (line_of line)) λ l. read_lines slots (suc n) lines (set named l.slot true) (with_time l m)
 
 -- what a file gives for a card of so many slots
 unfoldable pub seen_of : (text : List ℕ) → (slots : ℕ) → SeenRead

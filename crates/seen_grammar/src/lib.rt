@@ -11,16 +11,10 @@ pub struct SeenLine {
     pub time: ClaimedTime,
 }
 
-// What bytes say as a line: whether they are one, and what it says then.
-#[derive(Clone, Copy)]
-pub struct SeenLineRead {
-    pub fits: bool,
-    pub line: SeenLine,
-}
-
 // Why a file is refused, or that it isn't.
 #[derive(Clone, Copy)]
 pub enum SeenRefusal {
+    // Kept: README's entry `seen::read` gives the refusal, the line and the times.
     NoRefusal,
     Layout,
     NoSlot,

@@ -9,13 +9,15 @@ use native.Mathlib.Omega.{arith}
 use lib.Dec.{leb, ltb, eqb, leb→le}
 use lib.ListN.{length, get_or, drop, length-drop, drop_of_length-le, get_or-eq_default}
 use lib.Seq.{drop-cons}
-use borrow.Author.Tests.{leb-true, leb-false, ltb-true, ltb-false, eqb-true, lt-ltb}
-use Rattle.bits.proofs.Choices.{when_true, when_false, either_way}
+use borrow.Author.Tests.{leb-true, leb-false, ltb-true, ltb-false, eqb-true}
+use Rattle.bits.proofs.Choices.{either_way}
 use Rattle.bits.proofs.Tests.{all_at, both_right, split}
+use Rattle.std.specs.Prelude.{Option, Some, None, is_some, unwrap_or}
+use Rattle.text_fields.specs.declared.Base.TheVariants.{Decimal}
 use Rattle.text_fields.specs.Text.{digit_of}
 use Rattle.sheet_grammar.specs.declared.Digits.{Digits}
 use Rattle.sheet_grammar.specs.declared.NumberRead.{NumberRead}
-use Rattle.sheet_grammar.specs.Layout.{is_digit, space, byte_at, digits_from, digits_at, number_fits, next_place, number_up_to}
+use Rattle.sheet_grammar.specs.Layout.{is_digit, digit_value, space, byte_at, digits_from, digits_at, number_fits, next_place, number_up_to}
 
 -- so many digits, which are such a number
 abbrev pub counted : (count number : ℕ) → Digits
@@ -34,7 +36,7 @@ none (suc more) count number = refl
 
 module _ (s : List ℕ) (most i count number : ℕ) where
   from : i < length s → count ≤ most → digits_from (suc most - count) count number (drop i s)
-      ≡ cond (is_digit (get_or s i 0)) (digits_from (most - count) (suc count) (number * 10 + digit_of false (get_or s i 0)) (drop (suc i) s)) (counted count number)
+      ≡ cond (is_digit (get_or s i 0)) (digits_from (most - count) (suc count) (number * 10 + digit_value (get_or s i 0)) (drop (suc i) s)) (counted count number)
   unfolding digits_from
   from h k =
       let e : suc most - count ≡ suc (most - count) = omega arith in
@@ -45,21 +47,26 @@ module _ (s : List ℕ) (most i count number : ℕ) where
   full k = let e : suc most - count ≡ zero = omega arith in ap (λ (m : ℕ). digits_from m count number (drop i s)) e
 
   -- a digit
-  pub digit_passes : i < length s → count ≤ most → digit_of false (get_or s i 0) < 16 → digits_from (suc most - count) count number (drop i s)
-      ≡ digits_from (suc most - (count + 1)) (count + 1) (number * 10 + digit_of false (get_or s i 0)) (drop (i + 1) s)
-  digit_passes h k d =
+  pub digit_passes : {d : ℕ} → i < length s → count ≤ most → digit_of Decimal (get_or s i 0) ≡ Some d → digits_from (suc most - count) count number (drop i s)
+      ≡ digits_from (suc most - (count + 1)) (count + 1) (number * 10 + d) (drop (i + 1) s)
+  digit_passes {d} h k is =
       let e : most - count ≡ suc most - suc count = omega arith in
       rw (add-one count, add-one i)
-      (from h k ∙ when_true (is_digit (get_or s i 0)) _ _ (lt-ltb (digit_of false (get_or s i 0)) 16 d)
-      ∙ ap (λ (m : ℕ). digits_from m (suc count) (number * 10 + digit_of false (get_or s i 0)) (drop (suc i) s)) e)
+      (from h k
+      ∙ ap (λ (o : Option ℕ). cond (is_some o) (digits_from (most - count) (suc count) (number * 10 + unwrap_or o 0) (drop (suc i) s)) (counted count number)) is
+      ∙ ap (λ (m : ℕ). digits_from m (suc count) (number * 10 + d) (drop (suc i) s)) e)
 
   -- all digits that there may be, or a byte that is none
-  pub digit_stops : i < length s → (leb count most && ltb (digit_of false (get_or s i 0)) 16) ≡ false
-      → counted count number ≡ digits_from (suc most - count) count number (drop i s)
+  pub digits_full : most < count → counted count number ≡ digits_from (suc most - count) count number (drop i s)
+  digits_full k = sym (full k)
+
+  pub digit_stops : i < length s → digit_of Decimal (get_or s i 0) ≡ None → counted count number ≡ digits_from (suc most - count) count number (drop i s)
   digit_stops h e =
       sym
       (split (leb count most)
-      (λ k. from h (leb-true count most k) ∙ when_false (is_digit (get_or s i 0)) _ _ (and_rest (leb count most) (ltb (digit_of false (get_or s i 0)) 16) k e))
+      (λ k.
+      from h (leb-true count most k)
+      ∙ ap (λ (o : Option ℕ). cond (is_some o) (digits_from (most - count) (suc count) (number * 10 + unwrap_or o 0) (drop (suc i) s)) (counted count number)) e)
       (λ k. full (leb-false count most k)))
 
   -- the end
@@ -93,7 +100,7 @@ digits_most zero count number s = omega arith
 digits_most (suc more) count number [] = omega arith
 digits_most (suc more) count number (b ∷ s) =
     either_way (λ (d : Digits). d.count ≤ count + suc (length s)) (is_digit b) _ _
-    (λ e. omega (arith, digits_most more (suc count) (number * 10 + digit_of false b) s)) (λ e. omega arith)
+    (λ e. omega (arith, digits_most more (suc count) (number * 10 + digit_value b) s)) (λ e. omega arith)
 
 -- not past what the place and the text's end are below
 pub digits_within : (limit most at : ℕ) (s : List ℕ) → at ≤ most → length s ≤ most → at + (digits_at limit at s).count ≤ most

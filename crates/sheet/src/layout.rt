@@ -3,7 +3,7 @@ ghost use Rattle.std.specs.Prelude.{◌≡◌, false, ◌+◌, ◌≤◌};
 ghost use Rattle.sheet_grammar.specs.Layout.{byte_at, digits_at, number_fits, next_place, number_up_to, number_at, is_unit_letter, unit_of, unit_bytes, unit_at, line_from, no_line, number_in, unit_in, fault_in};
 
 use sheet_grammar::{Digits, Fault, LineRead, NumberRead, SheetLine, UnitRead};
-use text_fields::{NO_DIGIT, digit_of};
+use text_fields::{Base, digit_of};
 use times::{Unit, claimed};
 
 // A number has 1 to 10 digits.
@@ -13,7 +13,7 @@ const MOST_DIGITS: usize = 10;
 fn byte_at(s: &[u8], at: usize) -> u8
     ensures { result ≡ byte_at at s.now }
 {
-    if at < s.len() { s[at] } else { 0 }
+    s.get(at).copied().unwrap_or(0)
 }
 
 // The digits at a place, one more than `most` at the most.
@@ -23,31 +23,24 @@ fn digits_at(s: &[u8], at: usize, most: usize) -> Digits
 {
     let mut count: usize = 0;
     let mut number: u64 = 0;
-    let mut i = at;
-    while i < s.len() {
-        let digit = digit_of(false, s[i]);
-        if (count <= most) & (digit < NO_DIGIT) {
-            number = number * 10 + (digit as u64);
-            count += 1;
-            i += 1;
-        } else {
-            return Digits {
-                count: count,
-                number: number,
-            };
+    for i in at..s.len() {
+        match digit_of(Base::Decimal, s[i]) {
+            Some(digit) if count <= most => {
+                number = number * 10 + u64::from(digit);
+                count += 1;
+            }
+            _ => return Digits { count, number },
         }
     }
-    Digits {
-        count: count,
-        number: number,
-    }
+    Digits { count, number }
 }
 
 // Whether so many digits are a number, with this byte after them.
+#[tactic(auto, unfolding(sheet_grammar::specs::Layout::number_fits))]
 fn number_fits(most: usize, count: usize, after: u8) -> bool
     ensures { result ≡ number_fits most count after }
 {
-    (1 <= count) & (count <= most) & (after == 0x20)
+    1 <= count && count <= most && after == b' '
 }
 
 // The first byte that is wrong: the one after the digits, or the first digit too many.
@@ -93,7 +86,7 @@ fn number_at(s: &[u8], at: usize) -> NumberRead
 fn is_unit_letter(b: u8) -> bool
     ensures { result ≡ is_unit_letter b }
 {
-    (b == 0x6E) | (b == 0x75) | (b == 0x6D)
+    b == b'n' || b == b'u' || b == b'm'
 }
 
 fn unit_of(b: u8) -> Unit

@@ -6,15 +6,16 @@ ghost use Rattle.sheet_grammar.specs.Reading.{is_slot, is_named, is_too_long, ha
 use crate::layout::{line_of, no_line};
 use readiness::{Setup, Slot};
 use sheet_grammar::{LineRead, SheetLine, SheetRead};
-use times::{ClaimedTime, Code, Encoded, GREATEST_TIME, claimed_nanos, code_for, nanos_number};
+use times::{ClaimedTime, Code, GREATEST_TIME, claimed_nanos, code_for, nanos_number};
 
 // ---- Refusals
 
 // Whether the card has the slot.
+#[tactic(auto, unfolding(sheet_grammar::specs::Reading::is_slot))]
 fn is_slot(slots: usize, l: SheetLine) -> bool
     ensures { result ≡ is_slot slots l }
 {
-    (l.slot < (slots as u64)) & (l.slot < 32)
+    l.slot < slots as u64 && l.slot < 32
 }
 
 // Whether the slot was named before.
@@ -35,13 +36,15 @@ fn is_too_long(c: ClaimedTime) -> bool
     GREATEST_TIME < nanos_number(claimed_nanos(c))
 }
 
+#[tactic(auto, unfolding(sheet_grammar::specs::Reading::has_too_long))]
 fn has_too_long(l: SheetLine) -> bool
     ensures { result ≡ has_too_long l }
 {
-    is_too_long(l.reset) | is_too_long(l.dl_up) | is_too_long(l.flr) | is_too_long(l.d3hot)
+    is_too_long(l.reset) || is_too_long(l.dl_up) || is_too_long(l.flr) || is_too_long(l.d3hot)
 }
 
 // 0, or the first of 40 to 43 that the line gives.
+// Kept: 40 to 43 are the papers' numbers, which README's entry `sheet::read` answers.
 fn refusal_of(slots: usize, named: [bool; 32], l: LineRead) -> u8
     ensures { result ≡ refusal_of slots named l }
 {
@@ -65,8 +68,8 @@ fn code_or(old: Code, c: ClaimedTime) -> Code
     ensures { result ≡ code_for old c }
 {
     match code_for(c) {
-        Encoded::Of(code) => code,
-        Encoded::NoCode => old,
+        Some(code) => code,
+        None => old,
     }
 }
 
@@ -112,6 +115,7 @@ pub fn read(text: &[u8], setup: Setup) -> SheetRead
     let mut at: usize = 0;
     let mut count: usize = 0;
     let len = text.len();
+    // Kept: each turn reads on from where the last line ended, so no range or slice gives the places.
     while at < len {
         let l = line_of(&text[at..len]);
         count += 1;
@@ -141,6 +145,7 @@ pub fn line_naming(text: &[u8], slot: u64) -> LineRead
 {
     let mut at: usize = 0;
     let len = text.len();
+    // Kept: each turn reads on from where the last line ended, so no range or slice gives the places.
     while at < len {
         let l = line_of(&text[at..len]);
         if !l.fits {
@@ -161,6 +166,7 @@ pub fn place_after(text: &[u8], lines: usize) -> usize
     let mut at: usize = 0;
     let mut left = lines;
     let len = text.len();
+    // Kept: each turn reads on from where the last line ended, so no range or slice gives the places.
     while (at < len) & (left > 0) {
         let l = line_of(&text[at..len]);
         if !l.fits {

@@ -14,7 +14,8 @@ use Rattle.readiness.specs.declared.Slot.{Slot}
 use Rattle.readiness.specs.declared.Setup.{Setup}
 use Rattle.readiness.specs.Blank.{blank_slot}
 use Rattle.text_fields.specs.Text.{digit_of}
-use Rattle.sheet_grammar.specs.declared.Doubt.TheVariants.{Nothing, AskUnit, OneIsZero}
+use Rattle.std.specs.Prelude.{Some, None}
+use Rattle.sheet_grammar.specs.declared.Doubt.TheVariants.{AskUnit, OneIsZero}
 use Rattle.sheet_grammar.specs.Layout.{digits_from, number_fits, next_place, number_up_to, unit_bytes, unit_at, claim, line_from, fault_in}
 use Rattle.sheet_grammar.specs.Reading.{is_slot, is_too_long, has_too_long, refusal_of, with_times, with_line, lines_of, gives, read_lines, sheet_of, line_naming, place_after}
 use Rattle.sheet_grammar.specs.Doubts.{is_far, doubt_of}
@@ -116,33 +117,33 @@ naming = refl
 -- ---- is the unit right?
 
 -- 300 us in place of 300 ns, and the other way round
-us_for_ns : doubt_of (code 0x12C) (code 0x525) ≡ AskUnit
+us_for_ns : doubt_of (code 0x12C) (code 0x525) ≡ Some AskUnit
 unfolding doubt_of is_far nanos_of power_of
 us_for_ns = refl
 
-ns_for_us : doubt_of (code 0x525) (code 0x12C) ≡ AskUnit
+ns_for_us : doubt_of (code 0x525) (code 0x12C) ≡ Some AskUnit
 unfolding doubt_of is_far nanos_of power_of
 ns_for_us = refl
 
 -- 1 ms in place of 1 us: the codes' times are 1,015,808 ns and 1,024 ns, less than 1,000 times apart
-ms_for_us : doubt_of (code 0x220) (code 0x61F) ≡ AskUnit
+ms_for_us : doubt_of (code 0x220) (code 0x61F) ≡ Some AskUnit
 unfolding doubt_of is_far nanos_of power_of
 ms_for_us = refl
 
 -- 499 times is no question; 500 times is
-near : doubt_of (code 1) (code 499) ≡ Nothing
+near : doubt_of (code 1) (code 499) ≡ None
 unfolding doubt_of is_far nanos_of power_of
 near = refl
 
-far : doubt_of (code 1) (code 500) ≡ AskUnit
+far : doubt_of (code 1) (code 500) ≡ Some AskUnit
 unfolding doubt_of is_far nanos_of power_of
 far = refl
 
 -- 0 is no factor of anything; 200h is 0 ns too
-from_zero : doubt_of (code 0x200) (code 5) ≡ OneIsZero
+from_zero : doubt_of (code 0x200) (code 5) ≡ Some OneIsZero
 unfolding doubt_of is_far nanos_of power_of
 from_zero = refl
 
-both_zero : doubt_of (code 0x200) (code 0) ≡ Nothing
+both_zero : doubt_of (code 0x200) (code 0) ≡ None
 unfolding doubt_of is_far nanos_of power_of
 both_zero = refl

@@ -16,7 +16,7 @@ use Rattle.text_fields.specs.Text.{digit_of}
 use Rattle.sheet_grammar.specs.declared.Digits.{Digits}
 use Rattle.sheet_grammar.specs.declared.NumberRead.{NumberRead}
 use Rattle.sheet_grammar.specs.declared.UnitRead.{UnitRead}
-use Rattle.sheet_grammar.specs.Layout.{is_digit, space, line_end, byte_at, digits_from, digits_at, number_fits, next_place, number_up_to, is_unit_letter, unit_of, unit_bytes, unit_at}
+use Rattle.sheet_grammar.specs.Layout.{is_digit, digit_value, space, line_end, byte_at, digits_from, digits_at, number_fits, next_place, number_up_to, is_unit_letter, unit_of, unit_bytes, unit_at}
 use Rattle.sheet_grammar.specs.Grammar.{Decimal, NumberUpTo, UnitName}
 use Rattle.sheet_grammar.specs.Grammar.Decimal.{done, digit}
 use Rattle.sheet_grammar.specs.Grammar.UnitName.{ns, us, ms}
@@ -90,7 +90,7 @@ no_more : (count before : ℕ) (s : List ℕ) → Digital count before s (counte
 no_more count before s = record { text = []; rest = s; is = done; whole = refl; size = omega arith }
 
 -- one more in front
-one_more : {count before b : ℕ} {s : List ℕ} {d : Digits} → is_digit b ≡ true → Digital (suc count) (before * 10 + digit_of false b) s d → Digital count before (b ∷ s) d
+one_more : {count before b : ℕ} {s : List ℕ} {d : Digits} → is_digit b ≡ true → Digital (suc count) (before * 10 + digit_value b) s d → Digital count before (b ∷ s) d
 one_more {b} e r = record { text = b ∷ r.text; rest = r.rest; is = digit e r.is; whole = ap (λ (t : List ℕ). b ∷ t) r.whole; size = omega (arith, r.size) }
 
 -- what is read as digits is digits
@@ -99,7 +99,7 @@ unfolding digits_from
 digits_found zero count before s = no_more count before s
 digits_found (suc more) count before [] = no_more count before []
 digits_found (suc more) count before (b ∷ s) =
-    either_way (Digital count before (b ∷ s)) (is_digit b) _ _ (λ e. one_more e (digits_found more (suc count) (before * 10 + digit_of false b) s)) (λ e. no_more count before (b ∷ s))
+    either_way (Digital count before (b ∷ s)) (is_digit b) _ _ (λ e. one_more e (digits_found more (suc count) (before * 10 + digit_value b) s)) (λ e. no_more count before (b ∷ s))
 
 -- digits and a space after them are read as the number that they are
 digits_read : {before n : ℕ} {text : List ℕ} (more count : ℕ) (rest : List ℕ) → Decimal before text n → length text ≤ more
@@ -109,7 +109,7 @@ digits_read zero count rest (done {n = m}) h = ap (λ (c : ℕ). counted c m) (o
 digits_read (suc more) count rest (done {n = m}) h = ap (λ (c : ℕ). counted c m) (omega arith)
 digits_read zero count rest (digit e d) h = absurd (omega arith)
 digits_read {before = before} (suc more) count rest (digit {n = m} {b = b} e d) h =
-    when_true (is_digit b) _ _ e ∙ digits_read {before = before * 10 + digit_of false b} more (suc count) rest d (omega arith) ∙ ap (λ (c : ℕ). counted c m) (omega arith)
+    when_true (is_digit b) _ _ e ∙ digits_read {before = before * 10 + digit_value b} more (suc count) rest d (omega arith) ∙ ap (λ (c : ℕ). counted c m) (omega arith)
 
 -- ---- numbers
 

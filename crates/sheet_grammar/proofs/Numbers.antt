@@ -5,9 +5,9 @@ use mathlib.Core.Bool.{true}
 use mathlib.Core.List.{List}
 use native.Mathlib.Omega.{arith}
 use borrow.Author.Tests.{ltb-true, lt-ltb}
+use Rattle.times.specs.declared.Code.{Code}
 use Rattle.times.specs.declared.ClaimedTime.{ClaimedTime}
-use Rattle.times.specs.declared.Encoded.{Encoded}
-use Rattle.times.specs.declared.Encoded.TheVariants.{Of, NoCode}
+use Rattle.std.specs.Prelude.{Option, Some, None}
 use Rattle.times.specs.Codes.{greatest_time}
 use Rattle.times.specs.Claims.{claimed_nanos}
 use Rattle.times.specs.Encoder.{encoded}
@@ -54,10 +54,10 @@ none_above : (c : ClaimedTime) → is_too_long c ≡ true → code_number (encod
 unfolding is_too_long code_number
 none_above c e = ap code_number (encodes.none (claimed_nanos c) (ltb-true greatest_time (claimed_nanos c).0 e))
 
-above_by : (c : ClaimedTime) (x : Encoded) → encoded (claimed_nanos c) ≡ x → code_number x ≡ 43 → is_too_long c ≡ true
+above_by : (c : ClaimedTime) (x : Option Code) → encoded (claimed_nanos c) ≡ x → code_number x ≡ 43 → is_too_long c ≡ true
 unfolding is_too_long code_number
-above_by c (Of code) e z = absurd (omega arith)
-above_by c NoCode e z = lt-ltb greatest_time (claimed_nanos c).0 (encodes.none_above (claimed_nanos c) e)
+above_by c (Some code) e z = absurd (omega arith)
+above_by c None e z = lt-ltb greatest_time (claimed_nanos c).0 (encodes.none_above (claimed_nanos c) e)
 
 pub numbers : Numbers
 numbers =

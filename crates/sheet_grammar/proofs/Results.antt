@@ -12,7 +12,7 @@ use Rattle.bits.proofs.Tests.{or_last}
 use Rattle.bits.specs.Orders.{Among}
 use Rattle.times.specs.declared.Code.{Code}
 use Rattle.times.specs.declared.ClaimedTime.{ClaimedTime}
-use Rattle.times.specs.declared.Encoded.TheVariants.{Of}
+use Rattle.std.specs.Prelude.{Some}
 use Rattle.times.specs.Codes.{nanos_of, allowed, greatest_time}
 use Rattle.times.specs.Claims.{claimed_nanos}
 use Rattle.times.specs.Encoder.{encoded}
@@ -118,11 +118,11 @@ each_short l e =
     record { reset = one.0; dl_up = one.1; flr = two.1; d3hot = three.1 }
 
 -- a claim that isn't too long has a code
-code_for_lem : (old : Code) (c : ClaimedTime) → is_too_long c ≡ false → encoded (claimed_nanos c) ≡ Of (code_for old c)
+code_for_lem : (old : Code) (c : ClaimedTime) → is_too_long c ≡ false → encoded (claimed_nanos c) ≡ Some (code_for old c)
 unfolding is_too_long
 code_for_lem old c t =
     let s = encodes.some (claimed_nanos c) (ltb-false greatest_time (claimed_nanos c).0 t) in
-    s.1 ∙ ap Of (sym (ap (code_or old) s.1))
+    s.1 ∙ ap Some (sym (ap (code_or old) s.1))
 
 -- which is the one asked for
 covers : (old : Code) (c : ClaimedTime) → is_too_long c ≡ false → LeastCovering (claimed_nanos c) (code_for old c)

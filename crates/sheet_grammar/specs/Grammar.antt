@@ -9,14 +9,13 @@ use Rattle.std.specs.Prelude.{ℕ, ◌+◌, ◌*◌, ◌≤◌, ◌≡◌, true,
 use Rattle.bits.specs.Text.{chars}
 use Rattle.times.specs.declared.Unit.{Unit}
 use Rattle.times.specs.declared.Unit.TheVariants.{Ns, Us, Ms}
-use Rattle.text_fields.specs.Text.{digit_of}
 use Rattle.sheet_grammar.specs.declared.SheetLine.{SheetLine}
-use Rattle.sheet_grammar.specs.Layout.{is_digit, space, line_end, claim, most_digits}
+use Rattle.sheet_grammar.specs.Layout.{is_digit, digit_value, space, line_end, claim, most_digits}
 
 -- digits, after others that are the number `before`, and the number that they are together
 pub data Decimal : (before : ℕ) → List ℕ → ℕ → Type 0 where
   done : {n : ℕ} → Decimal n [] n
-  digit : {before n b : ℕ} {s : List ℕ} → is_digit b ≡ true → Decimal (before * 10 + digit_of false b) s n → Decimal before (b ∷ s) n
+  digit : {before n b : ℕ} {s : List ℕ} → is_digit b ≡ true → Decimal (before * 10 + digit_value b) s n → Decimal before (b ∷ s) n
 
 -- 1 to so many digits
 pub record NumberUpTo (limit : ℕ) (s : List ℕ) (n : ℕ) : Type 0 where

@@ -1,9 +1,10 @@
 -- A line of a sheet, read from its bytes: slot number, four times, a unit; one space between, byte 0Ah after the unit.
-use Rattle.std.specs.Prelude.{ℕ, zero, suc, ◌+◌, ◌*◌, Bool, true, false, ◌&&◌, ◌||◌, cond, List, [], ◌∷◌, eqb, leb, ltb, length, get_or, drop}
+use Rattle.std.specs.Prelude.{ℕ, zero, suc, ◌+◌, ◌*◌, Bool, true, false, ◌&&◌, ◌||◌, cond, List, [], ◌∷◌, eqb, leb, length, get_or, drop}
 use Rattle.times.specs.declared.Unit.{Unit}
 use Rattle.times.specs.declared.Unit.TheVariants.{Ns, Us, Ms}
 use Rattle.times.specs.declared.ClaimedTime.{ClaimedTime}
-use Rattle.text_fields.specs.Text.{no_digit, digit_of}
+use Rattle.text_fields.specs.Text.{is_digit as is_digit_in, digit_value as value_in}
+use Rattle.text_fields.specs.declared.Base.TheVariants.{Decimal}
 use Rattle.sheet_grammar.specs.declared.SheetLine.{SheetLine}
 use Rattle.sheet_grammar.specs.declared.Digits.{Digits}
 use Rattle.sheet_grammar.specs.declared.NumberRead.{NumberRead}
@@ -13,7 +14,11 @@ use Rattle.sheet_grammar.specs.declared.Fault.{Fault}
 
 -- '0' to '9'
 abbrev pub is_digit : ℕ → Bool
-is_digit b = ltb (digit_of false b) no_digit
+is_digit b = is_digit_in Decimal b
+
+-- the number that it is
+abbrev pub digit_value : ℕ → ℕ
+digit_value b = value_in Decimal b
 
 abbrev pub space : ℕ
 space = 0x20
@@ -36,7 +41,7 @@ unfoldable pub digits_from : (more count number : ℕ) → List ℕ → Digits
 digits_from zero count number s = record { count = count; number = number }
 digits_from (suc more) count number [] = record { count = count; number = number }
 digits_from (suc more) count number (b ∷ s) =
-    cond (is_digit b) (digits_from more (suc count) (number * 10 + digit_of false b) s) (record { count = count; number = number })
+    cond (is_digit b) (digits_from more (suc count) (number * 10 + digit_value b) s) (record { count = count; number = number })
 
 -- the digits at a place, one more than `most` at the most
 abbrev pub digits_at : (most at : ℕ) → List ℕ → Digits

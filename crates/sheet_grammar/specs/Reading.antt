@@ -1,9 +1,7 @@
 -- What a sheet does to a set-up (02, Q-1).
-use Rattle.std.specs.Prelude.{ℕ, zero, suc, ◌+◌, Bool, true, false, ◌&&◌, ◌||◌, not, cond, List, [], ◌∷◌, eqb, ltb, get_or, set, replicate}
+use Rattle.std.specs.Prelude.{ℕ, zero, suc, ◌+◌, Bool, true, false, ◌&&◌, ◌||◌, not, cond, List, [], ◌∷◌, eqb, ltb, get_or, set, replicate, Option, Some, None}
 use Rattle.times.specs.declared.Code.{Code}
 use Rattle.times.specs.declared.ClaimedTime.{ClaimedTime}
-use Rattle.times.specs.declared.Encoded.{Encoded}
-use Rattle.times.specs.declared.Encoded.TheVariants.{Of, NoCode}
 use Rattle.times.specs.Codes.{greatest_time}
 use Rattle.times.specs.Claims.{claimed_nanos}
 use Rattle.times.specs.Encoder.{encoded}
@@ -42,14 +40,14 @@ refusal_of slots named l =
 -- ---- codes
 
 -- the code of a claim
-abbrev pub code_or : Code → Encoded → Code
-code_or old (Of c) = c
-code_or old NoCode = old
+abbrev pub code_or : Code → Option Code → Code
+code_or old (Some c) = c
+code_or old None = old
 
 -- in 02's numbers: 0 with a code, 43 without one
-unfoldable pub code_number : Encoded → ℕ
-code_number (Of c) = 0
-code_number NoCode = 43
+unfoldable pub code_number : Option Code → ℕ
+code_number (Some c) = 0
+code_number None = 43
 
 abbrev pub code_for : Code → ClaimedTime → Code
 code_for old c = code_or old (encoded (claimed_nanos c))

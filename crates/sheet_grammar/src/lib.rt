@@ -25,6 +25,7 @@ pub struct Digits {
 // it doesn't fit, the place of the first byte that is wrong.
 #[derive(Clone, Copy)]
 pub struct NumberRead {
+    // Kept: `next` has a value in both cases, where to read on or the wrong byte, and specs/Layout.line_from reads on in both.
     pub fits: bool,
     pub number: u64,
     pub next: usize,
@@ -33,6 +34,7 @@ pub struct NumberRead {
 // The same of a unit and the byte 0Ah after it.
 #[derive(Clone, Copy)]
 pub struct UnitRead {
+    // Kept: `next` has a value in both cases, as with a number.
     pub fits: bool,
     pub unit: Unit,
     pub next: usize,
@@ -49,6 +51,7 @@ pub struct LineRead {
 // What a reading gives: 0, or a refusal with its line, counted from 1; and the set-up.
 #[derive(Clone, Copy)]
 pub struct SheetRead {
+    // Kept: README's entry `sheet::read` gives a number, the line and the set-up; 40 to 43 are the papers' numbers.
     pub number: u8,
     pub line: usize,
     pub setup: Setup,
@@ -61,11 +64,10 @@ pub struct Fault {
     pub place: usize,
 }
 
-// Whether a code is far from the one that was there before: a question where the unit may be wrong, a note where just one of the
-// times is 0.
+// What is to be said of a code that is far from the one that was there before: a question where the unit may be wrong, a note where
+// just one of the times is 0.
 #[derive(Clone, Copy)]
 pub enum Doubt {
-    Nothing,
     AskUnit,
     OneIsZero,
 }

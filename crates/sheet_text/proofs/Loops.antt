@@ -1,4 +1,4 @@
--- Texts put piece by piece: what is left of a text goes to the next index.
+-- Texts put piece by piece.
 use Prim.Native.Nat.{ℕ, ◌+◌, ◌≤◌, ◌<◌}
 use mathlib.Core.Path.{◌≡◌, refl, ap, sym, ◌∙◌}
 use mathlib.Core.List.{List, [], ◌++◌}
@@ -8,38 +8,36 @@ use lib.ListN.{length, get_or, drop, drop_of_length-le}
 use lib.Seq.{drop-cons}
 use Rattle.readiness.specs.declared.Slot.{Slot}
 use Rattle.readiness.specs.Blank.{blank_slot}
-use Rattle.text_line.specs.Line.{lined, puts, Put}
+use Rattle.text_line.specs.Page.{put}
 use Rattle.text_line.specs.Text.{text_if}
-use Rattle.text_line.proofs.Putting.{puts_append, put_long}
+use Rattle.text_line.proofs.Putting.{put_append, put_nothing}
 use Rattle.sheet_grammar.specs.Reading.{line_naming}
 use Rattle.sheet_text.specs.Cards.{slot_text, slots_from, word_text, words_from}
 use Rattle.sheet_text.specs.Doubts.{slot_doubts, doubts_from}
 
 -- ---- any text
 
-pub record Left (whole : List ℕ) (at : ℕ) (line₀ : List ℕ) (rest : List ℕ) (next : ℕ) (line : List ℕ) : Type 0 where
-  pub long : length line ≡ length line₀
-  pub so_far : puts whole (lined at line₀) ≡ puts rest (lined next line)
+-- the same text, said in another way
+pub alike : {a b : List ℕ} (page : List ℕ) {q : List ℕ} → a ≡ b → q ≡ put a page → q ≡ put b page
+alike page e f = f ∙ ap (λ (t : List ℕ). put t page) e
 
-pub starts : {whole line : List ℕ} {at : ℕ} → Left whole at line whole at line
-starts = record { long = refl; so_far = refl }
+pub nothing : (page : List ℕ) → page ≡ put [] page
+nothing page = sym (put_nothing page)
+
+pub record Left (whole before rest page : List ℕ) : Type 0 where
+  pub so_far : put whole before ≡ put rest page
+
+pub starts : {whole page : List ℕ} → Left whole page whole page
+starts = record { so_far = refl }
 
 -- a piece more
-pub turns : {whole line₀ rest line line' : List ℕ} {at next next' : ℕ} (piece less : List ℕ) → Left whole at line₀ rest next line
-    → rest ≡ piece ++ less → Put piece next line next' line' → Left whole at line₀ less next' line'
-turns {line = line} {next = next} piece less h e p =
-    record {
-      long = put_long p ∙ h.long;
-      so_far =
-          h.so_far
-          ∙ ap (λ (t : List ℕ). puts t (lined next line)) e
-          ∙ puts_append piece less (lined next line)
-          ∙ ap (puts less) (sym p.so);
-    }
+pub turns : {whole before rest page after : List ℕ} (piece less : List ℕ) → Left whole before rest page
+    → rest ≡ piece ++ less → after ≡ put piece page → Left whole before less after
+turns {page = page} piece less h e p =
+    record { so_far = h.so_far ∙ ap (λ (t : List ℕ). put t page) e ∙ put_append piece less page ∙ ap (put less) (sym p) }
 
-pub ends : {whole line₀ rest line : List ℕ} {at next : ℕ} → Left whole at line₀ rest next line → rest ≡ [] → Put whole at line₀ next line
-unfolding puts
-ends {line = line} {next = next} h e = record { so = sym (h.so_far ∙ ap (λ (t : List ℕ). puts t (lined next line)) e) }
+pub ends : {whole before rest page : List ℕ} → Left whole before rest page → rest ≡ [] → page ≡ put whole before
+ends {page = page} h e = sym (h.so_far ∙ ap (λ (t : List ℕ). put t page) e ∙ put_nothing page)
 
 -- ---- words
 

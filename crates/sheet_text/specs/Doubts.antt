@@ -1,5 +1,5 @@
 -- Where the unit of a sheet may be wrong: a line for each time with a doubt.
-use Rattle.std.specs.Prelude.{ℕ, suc, Bool, true, false, List, [], ◌∷◌, ◌++◌}
+use Rattle.std.specs.Prelude.{ℕ, suc, List, [], ◌∷◌, ◌++◌, Option, Some, None}
 use Rattle.times.specs.declared.Code.{Code}
 use Rattle.times.specs.declared.ClaimedTime.{ClaimedTime}
 use Rattle.readiness.specs.declared.Slot.{Slot}
@@ -8,21 +8,19 @@ use Rattle.text_line.specs.Text.{text_if}
 use Rattle.sheet_grammar.specs.declared.SheetLine.{SheetLine}
 use Rattle.sheet_grammar.specs.declared.LineRead.{LineRead}
 use Rattle.sheet_grammar.specs.declared.Doubt.{Doubt}
-use Rattle.sheet_grammar.specs.declared.Doubt.TheVariants.{Nothing, AskUnit, OneIsZero}
 use Rattle.sheet_grammar.specs.Reading.{lines_of, line_naming}
 use Rattle.sheet_grammar.specs.Doubts.{doubt_of}
 use Rattle.describe_sheet.specs.Doubts.{doubt_text}
 use Rattle.sheet_text.specs.Lines.{about}
 
-abbrev pub is_doubt : Doubt → Bool
-is_doubt Nothing = false
-is_doubt AskUnit = true
-is_doubt OneIsZero = true
+-- the line about a doubt; nothing without one
+abbrev pub doubt_line : (name : List ℕ) (slot which : ℕ) → ClaimedTime → (before after : Code) → Option Doubt → List ℕ
+doubt_line name slot which claim before after (Some d) = about name (doubt_text slot which claim before after d)
+doubt_line name slot which claim before after None = []
 
 -- the line of a time, where there is a doubt
 unfoldable pub time_doubt : (name : List ℕ) (slot which : ℕ) → ClaimedTime → (before after : Code) → List ℕ
-time_doubt name slot which claim before after =
-    text_if (is_doubt (doubt_of before after)) (about name (doubt_text slot which claim before after (doubt_of before after)))
+time_doubt name slot which claim before after = doubt_line name slot which claim before after (doubt_of before after)
 
 -- the lines of the four times of a slot
 unfoldable pub times_doubts : (name : List ℕ) (slot : ℕ) → SheetLine → (before after : Slot) → List ℕ

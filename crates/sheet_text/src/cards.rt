@@ -1,7 +1,10 @@
 // A card as a CARD file, with comments on the times of a sheet.
-ghost use Rattle.text_line.specs.Line.{Put};
+// Kept in this file: long parameter lists, since each function takes what its text names, from places that share no struct.
+#![tactic(auto, using(text_line::proofs::Putting::putting), unfolding(text_line::specs::Text::text_if, crate::specs::Cards::front_text, crate::specs::Cards::times_text, crate::specs::Cards::comments_text, crate::specs::Cards::slot_text, crate::specs::Cards::slots_from, crate::specs::Cards::word_text, crate::specs::Cards::words_from, crate::specs::Cards::card_text))]
+
+ghost use Rattle.text_line.specs.Page.{put};
 ghost use Rattle.text_line.specs.Text.{text_if};
-ghost use Rattle.std.specs.Prelude.{ltb};
+ghost use Rattle.std.specs.Prelude.{◌≡◌, ltb};
 ghost use Rattle.sheet_grammar.specs.Reading.{lines_of};
 ghost use Rattle.describe_sheet.specs.Comments.{time_comment};
 ghost use Rattle.sheet_text.specs.Lines.{ended};
@@ -15,147 +18,116 @@ use describe_sheet::comments::{put_time_comment, put_unnamed_comment};
 use readiness::{Setup, Slot};
 use sheet::line_naming;
 use sheet_grammar::{LineRead, SheetLine};
-use text_line::text::{put_byte, put_text};
+use text_line::Page;
 use times::{ClaimedTime, Code};
 
 // The byte that ends a line.
 const END: u8 = 0x0A;
 
 // The comment in front; slots, queue, bus and port.
-fn put_front(line: &mut [u8], at: usize, setup: Setup, queue: usize) -> usize
-    ensures { Put (front_text setup queue) at line.old result line.new }
+fn put_front(page: &mut Page, setup: Setup, queue: usize)
+    ensures { page.new ≡ put (front_text setup queue) page.old }
 {
-    let a = put_text(&mut *line, at, b"# The times of a sheet, on a card.\n");
-    let b = put_slots_fact(&mut *line, a, setup.slots);
-    let c = put_byte(&mut *line, b, END);
-    let d = put_queue_fact(&mut *line, c, queue);
-    let e = put_byte(&mut *line, d, END);
-    let f = put_bus_fact(&mut *line, e, setup.bus);
-    let g = put_byte(&mut *line, f, END);
-    let h = put_port_fact(&mut *line, g, setup.port_id);
-    put_byte(line, h, END)
+    page.put_text(b"# The times of a sheet, on a card.\n");
+    put_slots_fact(page, setup.slots);
+    page.put_byte(END);
+    put_queue_fact(page, queue);
+    page.put_byte(END);
+    put_bus_fact(page, setup.bus);
+    page.put_byte(END);
+    put_port_fact(page, setup.port_id);
+    page.put_byte(END);
 }
 
 // ---- Slots
 
 // The comment on a time.
-fn put_time_line(
-    line: &mut [u8],
-    at: usize,
-    slot: u64,
-    which: usize,
-    claim: ClaimedTime,
-    code: Code,
-) -> usize
-    ensures { Put (ended (time_comment slot which claim code)) at line.old result line.new }
+fn put_time_line(page: &mut Page, slot: u64, which: usize, claim: ClaimedTime, code: Code)
+    ensures { page.new ≡ put (ended (time_comment slot which claim code)) page.old }
 {
-    let a = put_time_comment(&mut *line, at, slot, which, claim, code);
-    put_byte(line, a, END)
+    put_time_comment(page, slot, which, claim, code);
+    page.put_byte(END);
 }
 
 // A comment for each time of a line, with the code that the slot has.
-fn put_times(line: &mut [u8], at: usize, slot: u64, l: SheetLine, s: Slot) -> usize
-    ensures { Put (times_text slot l s) at line.old result line.new }
+fn put_times(page: &mut Page, slot: u64, l: SheetLine, s: Slot)
+    ensures { page.new ≡ put (times_text slot l s) page.old }
 {
-    let a = put_time_line(&mut *line, at, slot, 0, l.reset, s.reset);
-    let b = put_time_line(&mut *line, a, slot, 1, l.dl_up, s.dl_up);
-    let c = put_time_line(&mut *line, b, slot, 2, l.flr, s.flr);
-    put_time_line(line, c, slot, 3, l.d3hot, s.d3hot)
+    put_time_line(page, slot, 0, l.reset, s.reset);
+    put_time_line(page, slot, 1, l.dl_up, s.dl_up);
+    put_time_line(page, slot, 2, l.flr, s.flr);
+    put_time_line(page, slot, 3, l.d3hot, s.d3hot);
 }
 
 // The comments of a slot: its times, where a line names it.
-fn put_comments(line: &mut [u8], at: usize, slot: u64, l: LineRead, s: Slot) -> usize
-    ensures { Put (comments_text slot l s) at line.old result line.new }
+fn put_comments(page: &mut Page, slot: u64, l: LineRead, s: Slot)
+    ensures { page.new ≡ put (comments_text slot l s) page.old }
 {
     if l.fits {
-        return put_times(line, at, slot, l.line, s);
+        put_times(page, slot, l.line, s);
+    } else {
+        put_unnamed_comment(page, slot);
+        page.put_byte(END);
     }
-    let a = put_unnamed_comment(&mut *line, at, slot);
-    put_byte(line, a, END)
 }
 
 // A slot: its comments, and its line.
-fn put_slot(line: &mut [u8], at: usize, slot: usize, text: &[u8], s: Slot) -> usize
-    ensures { Put (slot_text slot (lines_of text.now) s) at line.old result line.new }
+fn put_slot(page: &mut Page, slot: usize, text: &[u8], s: Slot)
+    ensures { page.new ≡ put (slot_text slot (lines_of text.now) s) page.old }
 {
     let number = u64_of_usize(slot);
     let l = line_naming(text, number);
-    let a = put_comments(&mut *line, at, number, l, s);
-    let b = put_slot_fact(&mut *line, a, slot, s);
-    put_byte(line, b, END)
+    put_comments(page, number, l, s);
+    put_slot_fact(page, slot, s);
+    page.put_byte(END);
 }
 
 // The slot, where it is below the count.
-fn put_slot_below(
-    line: &mut [u8],
-    at: usize,
-    slots: usize,
-    slot: usize,
-    text: &[u8],
-    s: Slot,
-) -> usize
-    ensures { Put (text_if (ltb slot slots) (slot_text slot (lines_of text.now) s)) at line.old result line.new }
+fn put_slot_below(page: &mut Page, slots: usize, slot: usize, text: &[u8], s: Slot)
+    ensures { page.new ≡ put (text_if (ltb slot slots) (slot_text slot (lines_of text.now) s)) page.old }
 {
     if slot < slots {
-        return put_slot(line, at, slot, text, s);
+        put_slot(page, slot, text, s);
     }
-    at
 }
 
 // Every slot below the count.
-fn put_slots(line: &mut [u8], at: usize, slots: usize, entries: [Slot; 32], text: &[u8]) -> usize
-    ensures { Put (slots_from 0 slots (lines_of text.now) entries) at line.old result line.new }
+fn put_slots(page: &mut Page, slots: usize, entries: [Slot; 32], text: &[u8])
+    ensures { page.new ≡ put (slots_from 0 slots (lines_of text.now) entries) page.old }
 {
-    let mut next = at;
-    let mut i: usize = 0;
-    while i < 32 {
-        let entry = entries[i];
-        next = put_slot_below(&mut *line, next, slots, i, text, entry);
-        i += 1;
+    for (i, entry) in entries.iter().enumerate() {
+        put_slot_below(page, slots, i, text, *entry);
     }
-    next
 }
 
 // ---- Default words
 
 // A default word, where it isn't 0.
-fn put_word(line: &mut [u8], at: usize, index: usize, word: u32) -> usize
-    ensures { Put (word_text index word) at line.old result line.new }
+fn put_word(page: &mut Page, index: usize, word: u32)
+    ensures { page.new ≡ put (word_text index word) page.old }
 {
-    if word == 0 {
-        return at;
+    if word != 0 {
+        put_word_fact(page, index, word);
+        page.put_byte(END);
     }
-    let a = put_word_fact(&mut *line, at, index, word);
-    put_byte(line, a, END)
 }
 
-fn put_words(line: &mut [u8], at: usize, words: &[u32]) -> usize
-    ensures { Put (words_from 0 words.now) at line.old result line.new }
+fn put_words(page: &mut Page, words: &[u32])
+    ensures { page.new ≡ put (words_from 0 words.now) page.old }
 {
-    let mut next = at;
-    let mut i: usize = 0;
-    while i < words.len() {
-        next = put_word(&mut *line, next, i, words[i]);
-        i += 1;
+    for (i, word) in words.iter().enumerate() {
+        put_word(page, i, *word);
     }
-    next
 }
 
 // ---- The card
 
 // A set-up, its queue and its default words, after the sheet whose text this is.
-pub fn put_card(
-    line: &mut [u8],
-    at: usize,
-    setup: Setup,
-    queue: usize,
-    words: &[u32],
-    text: &[u8],
-) -> usize
-    ensures { Put (card_text setup queue words.now text.now) at line.old result line.new }
+pub fn put_card(page: &mut Page, setup: Setup, queue: usize, words: &[u32], text: &[u8])
+    ensures { page.new ≡ put (card_text setup queue words.now text.now) page.old }
 {
     let entries = setup.entries;
-    let a = put_front(&mut *line, at, setup, queue);
-    let b = put_slots(&mut *line, a, setup.slots, entries, text);
-    put_words(line, b, words)
+    put_front(page, setup, queue);
+    put_slots(page, setup.slots, entries, text);
+    put_words(page, words);
 }

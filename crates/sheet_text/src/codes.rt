@@ -1,58 +1,60 @@
 // The code of one time, in lines.
-ghost use Rattle.text_line.specs.Line.{Put};
+#![tactic(auto, using(text_line::proofs::Putting::putting), unfolding(text_line::specs::Text::text_if, crate::specs::CodeLines::lower_line, crate::specs::CodeLines::lines_of_code, crate::specs::CodeLines::too_long_line))]
+
+ghost use Rattle.std.specs.Prelude.{◌≡◌, Some};
+ghost use Rattle.text_line.specs.Page.{put};
 ghost use Rattle.times.specs.Encoder.{next_lower};
-ghost use Rattle.times.specs.declared.Encoded.TheVariants.{Of};
 ghost use Rattle.sheet_text.specs.CodeLines.{lower_line, lines_of_code, code_lines, too_long_line};
 
 use describe_sheet::code_words::{put_claimed, put_given, put_lower, put_no_lower, put_too_long};
-use text_line::text::{put_byte, put_text};
-use times::{ClaimedTime, Code, Encoded, code_for, next_lower};
+use text_line::Page;
+use times::{ClaimedTime, Code, code_for, next_lower};
 
 // The byte that ends a line.
 const END: u8 = 0x0A;
 
 // The next lower code, or that there is none.
-fn put_lower_line(line: &mut [u8], at: usize, c: ClaimedTime, code: Code) -> usize
-    ensures { Put (lower_line c (next_lower code)) at line.old result line.new }
+fn put_lower_line(page: &mut Page, c: ClaimedTime, code: Code)
+    ensures { page.new ≡ put (lower_line c (next_lower code)) page.old }
 {
     match next_lower(code) {
-        Encoded::Of(lower) => {
-            let a = put_lower(&mut *line, at, c, lower);
-            put_byte(line, a, END)
+        Some(lower) => {
+            put_lower(page, c, lower);
+            page.put_byte(END);
         }
-        Encoded::NoCode => {
-            let a = put_no_lower(&mut *line, at);
-            put_byte(line, a, END)
+        None => {
+            put_no_lower(page);
+            page.put_byte(END);
         }
     }
 }
 
 // The claim, its code and the next lower one.
-fn put_coded(line: &mut [u8], at: usize, c: ClaimedTime, code: Code) -> usize
-    ensures { Put (lines_of_code c (Of code)) at line.old result line.new }
+fn put_coded(page: &mut Page, c: ClaimedTime, code: Code)
+    ensures { page.new ≡ put (lines_of_code c (Some code)) page.old }
 {
-    let d = put_claimed(&mut *line, at, c);
-    let e = put_byte(&mut *line, d, END);
-    let f = put_given(&mut *line, e, c, code);
-    let g = put_byte(&mut *line, f, END);
-    put_lower_line(line, g, c, code)
+    put_claimed(page, c);
+    page.put_byte(END);
+    put_given(page, c, code);
+    page.put_byte(END);
+    put_lower_line(page, c, code);
 }
 
 // The three lines of a time; none for a time without a code.
-pub fn put_code_lines(line: &mut [u8], at: usize, c: ClaimedTime) -> usize
-    ensures { Put (code_lines c) at line.old result line.new }
+pub fn put_code_lines(page: &mut Page, c: ClaimedTime)
+    ensures { page.new ≡ put (code_lines c) page.old }
 {
     match code_for(c) {
-        Encoded::Of(code) => put_coded(line, at, c, code),
-        Encoded::NoCode => at,
+        Some(code) => put_coded(page, c, code),
+        None => {}
     }
 }
 
 // The line of a time without a code: 43, and by how much it is too long.
-pub fn put_too_long_line(line: &mut [u8], at: usize, c: ClaimedTime) -> usize
-    ensures { Put (too_long_line c) at line.old result line.new }
+pub fn put_too_long_line(page: &mut Page, c: ClaimedTime)
+    ensures { page.new ≡ put (too_long_line c) page.old }
 {
-    let d = put_text(&mut *line, at, b"43: ");
-    let e = put_too_long(&mut *line, d, c);
-    put_byte(line, e, END)
+    page.put_text(b"43: ");
+    put_too_long(page, c);
+    page.put_byte(END);
 }

@@ -1,14 +1,16 @@
 // A line about a file.
-ghost use Rattle.std.specs.Prelude.{◌++◌};
-ghost use Rattle.bits.specs.Text.{chars};
-ghost use Rattle.text_line.specs.Line.{Put};
+#![tactic(auto, using(text_line::proofs::Putting::putting))]
 
-use text_line::text::put_text;
+ghost use Rattle.std.specs.Prelude.{◌≡◌, ◌++◌};
+ghost use Rattle.bits.specs.Text.{chars};
+ghost use Rattle.text_line.specs.Page.{put};
+
+use text_line::Page;
 
 // The name of the file that the line is about.
-pub fn put_name(line: &mut [u8], at: usize, name: &[u8]) -> usize
-    ensures { Put (name.now ++ chars ": ") at line.old result line.new }
+pub fn put_name(page: &mut Page, name: &[u8])
+    ensures { page.new ≡ put (name.now ++ chars ": ") page.old }
 {
-    let a = put_text(&mut *line, at, name);
-    put_text(line, a, b": ")
+    page.put_text(name);
+    page.put_text(b": ");
 }

@@ -1,57 +1,42 @@
 // Why a sheet is refused.
-ghost use Rattle.std.specs.Prelude.{◌≡◌, ◌-◌};
-ghost use Rattle.text_line.specs.Line.{Put};
+// Kept in this file: long parameter lists, since each function takes what its text names, from places that share no struct.
+#![tactic(auto, using(text_line::proofs::Putting::putting), unfolding(text_line::specs::Text::text_if, crate::specs::Refused::refusal_line, crate::specs::Refused::refused_text))]
+
+ghost use Rattle.std.specs.Prelude.{◌≡◌};
+ghost use Rattle.text_line.specs.Page.{put};
 ghost use Rattle.sheet_text.specs.Refused.{refusal_line, refused_text};
 
 use crate::lines::put_name;
-use bits::at_most;
 use describe_sheet::refusals::put_refusal;
 use readiness::Setup;
 use sheet::{fault_in, line_of, place_after};
-use text_line::text::put_byte;
-
-// How many lines stand before a line.
-fn lines_before(row: usize) -> usize
-    ensures { result ≡ row - 1 }
-{
-    if row > 0 { row - 1 } else { 0 }
-}
+use text_line::Page;
 
 // The line about a refusal: its number, and which line is at fault, the first of the rest of the sheet.
-fn put_refusal_line(
-    line: &mut [u8],
-    at: usize,
-    name: &[u8],
-    slots: usize,
-    number: u8,
-    row: usize,
-    rest: &[u8],
-) -> usize
-    ensures { Put (refusal_line name.now slots number row rest.now) at line.old result line.new }
+fn put_refusal_line(page: &mut Page, name: &[u8], slots: usize, number: u8, row: usize, rest: &[u8])
+    ensures { page.new ≡ put (refusal_line name.now slots number row rest.now) page.old }
 {
     let l = line_of(rest);
     let fault = fault_in(rest);
-    let a = put_name(&mut *line, at, name);
-    let b = put_refusal(&mut *line, a, number, row, slots, l.line, fault);
-    put_byte(line, b, 0x0A)
+    put_name(page, name);
+    put_refusal(page, number, row, slots, l.line, fault);
+    page.put_byte(0x0A);
 }
 
 // That of a sheet, by its name, on a set-up; nothing where it is accepted.
-pub fn put_refused(line: &mut [u8], at: usize, name: &[u8], setup: Setup, text: &[u8]) -> usize
-    ensures { Put (refused_text name.now setup text.now) at line.old result line.new }
+pub fn put_refused(page: &mut Page, name: &[u8], setup: Setup, text: &[u8])
+    ensures { page.new ≡ put (refused_text name.now setup text.now) page.old }
 {
     let got = sheet::read(text, setup);
-    if got.number == 0 {
-        return at;
+    if got.number != 0 {
+        let place = place_after(text, got.line.saturating_sub(1)).min(text.len());
+        put_refusal_line(
+            page,
+            name,
+            setup.slots,
+            got.number,
+            got.line,
+            &text[place..],
+        );
     }
-    let place = at_most(place_after(text, lines_before(got.line)), text.len());
-    put_refusal_line(
-        line,
-        at,
-        name,
-        setup.slots,
-        got.number,
-        got.line,
-        &text[place..],
-    )
 }

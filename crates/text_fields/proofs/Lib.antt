@@ -1,4 +1,3 @@
 pub mod Runs
-pub mod Same
 pub mod Numbers
 pub mod Examples

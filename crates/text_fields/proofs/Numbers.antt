@@ -1,22 +1,55 @@
 -- A number read digit by digit.
-use mathlib.Core.Path.{◌≡◌, refl, ap, ◌∙◌}
+use mathlib.Core.Path.{◌≡◌, refl, ap, subst, ◌∙◌}
 use mathlib.Core.Bool.{Bool, true, false, ◌&&◌, cond}
 use mathlib.Core.List.{List, [], ◌∷◌}
-use Prim.Native.Nat.{ℕ, suc, ◌+◌, ◌*◌, ◌^◌, ◌≤◌, ◌<◌}
+use Prim.Native.Nat.{ℕ, zero, suc, ◌+◌, ◌*◌, ◌-◌, ◌^◌, ◌≤◌, ◌<◌}
 use native.Mathlib.Nat.{pow-suc}
 use native.Mathlib.Numerals.{add-one}
 use native.Mathlib.Omega.{arith}
-use lib.Dec.{leb, ltb, leb→le}
+use lib.Dec.{leb, leb→le}
 use lib.ListN.{length, get_or, drop, drop_of_length-le}
 use lib.Seq.{drop-cons}
-use borrow.Author.Tests.{leb-true, ltb-true, lt-ltb, le-ltb}
+use borrow.Author.Tests.{leb-true}
+use Rattle.std.specs.Prelude.{Option, Some, None, is_some, unwrap_or}
 use Rattle.bits.proofs.Tests.{all_at, both_left, both_right}
-use Rattle.text_fields.specs.Text.{no_number, no_digit, base_of, digit_of, value_from, width_allowed, number_of}
+use Rattle.text_fields.specs.Text.{base_of, is_hex, digit_of, is_digit, digit_value, value_from, width_allowed, number_of}
+use Rattle.text_fields.specs.declared.Base.{Base}
+use Rattle.text_fields.specs.declared.Base.TheVariants.{Decimal, Hex}
+use Rattle.text_fields.specs.declared.Numeral.{Numeral}
+
+-- ---- digits
+
+either : (P : Option ℕ → Type 0) (t : Bool) (o u : Option ℕ) → (t ≡ true → P o) → P u → P (cond t o u)
+either P true o u f p = f refl
+either P false o u f p = p
+
+Small : ℕ → Option ℕ → Type 0
+Small n o = unwrap_or o 0 < n
+
+-- a digit is below its base
+pub digit_small : (base : Base) (b : ℕ) → digit_value base b < 16
+unfolding digit_of Small
+digit_small base b =
+    let low : (k : ℕ) → (leb k b && leb b 0x39) ≡ true → b ≤ 0x39 = λ k e. leb-true b 0x39 (both_right (leb k b) (leb b 0x39) e) in
+    let capital : (is_hex base && (leb 0x41 b && leb b 0x46)) ≡ true → b ≤ 0x46 =
+    λ e. leb-true b 0x46 (both_right (leb 0x41 b) (leb b 0x46) (both_right (is_hex base) (leb 0x41 b && leb b 0x46) e)) in
+    let small : (is_hex base && (leb 0x61 b && leb b 0x66)) ≡ true → b ≤ 0x66 =
+    λ e. leb-true b 0x66 (both_right (leb 0x61 b) (leb b 0x66) (both_right (is_hex base) (leb 0x61 b && leb b 0x66) e)) in
+    either (Small 16) (leb 0x30 b && leb b 0x39) (Some (b - 0x30)) _ (λ e. omega (arith, low 0x30 e))
+    (either (Small 16) (is_hex base && (leb 0x41 b && leb b 0x46)) (Some (b - 0x41 + 10)) _ (λ e. omega (arith, capital e))
+    (either (Small 16) (is_hex base && (leb 0x61 b && leb b 0x66)) (Some (b - 0x61 + 10)) None (λ e. omega (arith, small e)) (omega arith)))
 
 -- one digit more: the number so far stays below a power of 16
-pub scaled : (hex : Bool) (v p d : ℕ) → v < p → d < 16 → v * base_of hex + d < p * 16
-scaled true v p d h k = omega arith
-scaled false v p d h k = omega arith
+pub scaled : (base : Base) (v p d : ℕ) → v < p → d < 16 → v * base_of base + d < p * 16
+scaled Hex v p d h k = omega arith
+scaled Decimal v p d h k = omega arith
+
+-- ---- widths
+
+-- a field of a width that is allowed has at most 8 digits
+pub width_most : (form : Numeral) (n : ℕ) → width_allowed form n ≡ true → n ≤ 8
+unfolding width_allowed
+width_most form n e = leb-true n 8 (both_right (leb form.least n && leb n form.most) (leb n 8) e)
 
 powers : ℕ → Bool
 powers i = leb (16 ^ i) 268435456
@@ -25,89 +58,88 @@ pub power_most : (i : ℕ) → i < 8 → 16 ^ i ≤ 268435456
 unfolding powers
 power_most i h = leb→le _ _ (all_at 8 powers tt i h)
 
-pub power_more : (i v : ℕ) → v < 16 ^ i * 16 → v < 16 ^ (i + 1)
-power_more i v h = rw add-one (omega (arith, pow-suc 16 i))
+-- ---- so many digits are below so many powers of 16
 
-module _ (hex : Bool) (v : ℕ) (s : List ℕ) (i : ℕ) where
-  from : i < length s → value_from hex v (drop i s)
-      ≡ cond (ltb (digit_of hex (get_or s i 0)) no_digit) (value_from hex (v * base_of hex + digit_of hex (get_or s i 0)) (drop (suc i) s)) no_number
-  unfolding value_from
-  from h = ap (value_from hex v) (drop-cons s i 0 h)
+Below : ℕ → Option ℕ → Type 0
+Below n o = unwrap_or o 0 < n
 
-  pub value_passes : i < length s → digit_of hex (get_or s i 0) < 16
-      → value_from hex v (drop i s) ≡ value_from hex (v * base_of hex + digit_of hex (get_or s i 0)) (drop (i + 1) s)
-  value_passes h d =
-      rw add-one (from h ∙ ap (λ (t : Bool). cond t (value_from hex (v * base_of hex + digit_of hex (get_or s i 0)) (drop (suc i) s)) no_number) (lt-ltb (digit_of hex (get_or s i 0)) 16 d))
+above_0 : (n : ℕ) → 0 < 16 ^ n
+above_0 zero = omega arith
+above_0 (suc n) = omega (arith, pow-suc 16 n, above_0 n)
 
-  pub value_stops : i < length s → 16 ≤ digit_of hex (get_or s i 0) → value_from hex v (drop i s) ≡ no_number
-  value_stops h d =
-      from h ∙ ap (λ (t : Bool). cond t (value_from hex (v * base_of hex + digit_of hex (get_or s i 0)) (drop (suc i) s)) no_number) (le-ltb (digit_of hex (get_or s i 0)) 16 d)
+value_width : (base : Base) (s : List ℕ) (v i : ℕ) → v < 16 ^ i → Below (16 ^ (i + length s)) (value_from base v s)
+unfolding value_from Below
+value_width base [] v i h = let e : i + 0 ≡ i = omega arith in rw e h
+value_width base (b ∷ s) v i h =
+    let e : i + suc (length s) ≡ suc i + length s = omega arith in
+    either (Below (16 ^ (i + suc (length s)))) (is_digit base b) (value_from base (v * base_of base + digit_value base b) s) None
+    (λ d. rw e (value_width base s (v * base_of base + digit_value base b) (suc i)
+    (omega (arith, pow-suc 16 i, scaled base v (16 ^ i) (digit_value base b) h (digit_small base b)))))
+    (above_0 (i + suc (length s)))
 
-  pub value_ends : length s ≤ i → value_from hex v (drop i s) ≡ v
-  unfolding value_from
-  value_ends h = ap (value_from hex v) (drop_of_length-le s h)
+from_cond : (t : Bool) (o : Option ℕ) {n : ℕ} → cond t o None ≡ Some n → (t ≡ true) × (o ≡ Some n)
+from_cond true o e = (refl, e)
+from_cond false o e = cc
 
--- a field of a width that is allowed has at most 8 digits
-pub width_most : (least most n : ℕ) → width_allowed least most n ≡ true → n ≤ 8
-unfolding width_allowed
-width_most least most n e = leb-true n 8 (both_right (leb least n && leb n most) (leb n 8) e)
-
--- ---- every number is below 2^32
+number_width : (form : Numeral) (s : List ℕ) {n : ℕ} → number_of form s ≡ Some n → (width_allowed form (length s) ≡ true) × (n < 16 ^ length s)
+unfolding number_of Below
+number_width form s {n} e =
+    let both = from_cond (width_allowed form (length s)) (value_from form.base 0 s) e in
+    let z : 0 + length s ≡ length s = omega arith in
+    let below : unwrap_or (value_from form.base 0 s) 0 < 16 ^ (0 + length s) = value_width form.base s 0 0 (omega arith) in
+    let value : unwrap_or (value_from form.base 0 s) 0 ≡ n = ap (λ (o : Option ℕ). unwrap_or o 0) both.1 in
+    (both.0, subst (λ (m : ℕ). m < 16 ^ length s) value (subst (λ (m : ℕ). unwrap_or (value_from form.base 0 s) 0 < 16 ^ m) z below))
 
 powers_small : ℕ → Bool
 powers_small i = leb (16 ^ i) 4294967296
 
-power_small : (i : ℕ) → i < 9 → 16 ^ i ≤ 4294967296
+-- a number is below 2^32
+pub number_small : (form : Numeral) (s : List ℕ) {n : ℕ} → number_of form s ≡ Some n → n < 4294967296
 unfolding powers_small
-power_small i h = leb→le _ _ (all_at 9 powers_small tt i h)
-
-either_most : (t : Bool) (m n k : ℕ) → (t ≡ true → m ≤ k) → n ≤ k → cond t m n ≤ k
-either_most true m n k f h = f refl
-either_most false m n k f h = h
-
-value_most : (hex : Bool) (s : List ℕ) (v i : ℕ) → v < 16 ^ i → i + length s ≤ 8 → value_from hex v s ≤ no_number
-unfolding value_from
-value_most hex [] v i h l = omega (arith, power_small i (omega arith))
-value_most hex (b ∷ s) v i h l =
-    either_most (ltb (digit_of hex b) no_digit) (value_from hex (v * base_of hex + digit_of hex b) s) no_number no_number
-    (λ e. value_most hex s (v * base_of hex + digit_of hex b) (suc i)
-    (omega (arith, pow-suc 16 i, scaled hex v (16 ^ i) (digit_of hex b) h (ltb-true (digit_of hex b) no_digit e))) (omega arith))
-    (omega arith)
-
-pub number_most : (hex : Bool) (least most : ℕ) (s : List ℕ) → number_of hex least most s ≤ no_number
-unfolding number_of
-number_most hex least most s =
-    either_most (width_allowed least most (length s)) (value_from hex 0 s) no_number no_number
-    (λ e. value_most hex s 0 0 (omega arith) (omega (arith, width_most least most (length s) e))) (omega arith)
-
--- ---- so many digits are below so many powers of 16
-
-either_width : (t : Bool) (m p : ℕ) → (t ≡ true → m < no_number → m < p) → cond t m no_number < no_number → cond t m no_number < p
-either_width true m p f h = f refl h
-either_width false m p f h = absurd (omega arith)
-
-value_width : (hex : Bool) (s : List ℕ) (v i : ℕ) → v < 16 ^ i → value_from hex v s < no_number → value_from hex v s < 16 ^ (i + length s)
-unfolding value_from
-value_width hex [] v i h l = let e : i + 0 ≡ i = omega arith in rw e h
-value_width hex (b ∷ s) v i h l =
-    let e : i + suc (length s) ≡ suc i + length s = omega arith in
-    either_width (ltb (digit_of hex b) no_digit) (value_from hex (v * base_of hex + digit_of hex b) s) (16 ^ (i + suc (length s)))
-    (λ d k. rw e
-    (value_width hex s (v * base_of hex + digit_of hex b) (suc i)
-    (omega (arith, pow-suc 16 i, scaled hex v (16 ^ i) (digit_of hex b) h (ltb-true (digit_of hex b) no_digit d))) k))
-    l
+number_small form s e =
+    let w = number_width form s e in
+    let all : 16 ^ length s ≤ 4294967296 = leb→le _ _ (all_at 9 powers_small tt (length s) (omega (arith, width_most form (length s) w.0))) in
+    omega (arith, w.1)
 
 thousands : ℕ → Bool
 thousands i = leb (16 ^ i) 4096
 
 -- a number of at most three digits is below 1000h
-pub code_small : (hex : Bool) (s : List ℕ) → number_of hex 3 3 s < no_number → number_of hex 3 3 s < 4096
-unfolding number_of width_allowed thousands
-code_small hex s l =
-    either_width (leb 3 (length s) && leb (length s) 3 && leb (length s) 8) (value_from hex 0 s) 4096
-    (λ e k.
-    let three : length s ≤ 3 = leb-true (length s) 3 (both_right (leb 3 (length s)) (leb (length s) 3) (both_left (leb 3 (length s) && leb (length s) 3) (leb (length s) 8) e)) in
-    let z : 0 + length s ≡ length s = omega arith in
-    let small : 16 ^ length s ≤ 4096 = leb→le _ _ (all_at 4 thousands tt (length s) (omega arith)) in
-    omega (arith, value_width hex s 0 0 (omega arith) k, ap (λ (n : ℕ). 16 ^ n) z))
-    l
+pub code_small : (base : Base) (s : List ℕ) {n : ℕ} → number_of (record { base = base; least = 3; most = 3 }) s ≡ Some n → n < 4096
+unfolding width_allowed thousands
+code_small base s e =
+    let w = number_width (record { base = base; least = 3; most = 3 }) s e in
+    let three : length s ≤ 3 = leb-true (length s) 3 (both_right (leb 3 (length s)) (leb (length s) 3) (both_left (leb 3 (length s) && leb (length s) 3) (leb (length s) 8) w.0)) in
+    let all : 16 ^ length s ≤ 4096 = leb→le _ _ (all_at 4 thousands tt (length s) (omega arith)) in
+    omega (arith, w.1)
+
+-- ---- the loop over the digits
+
+module _ (base : Base) (v : ℕ) (s : List ℕ) (i : ℕ) where
+  from : i < length s → value_from base v (drop i s)
+      ≡ cond (is_digit base (get_or s i 0)) (value_from base (v * base_of base + digit_value base (get_or s i 0)) (drop (suc i) s)) None
+  unfolding value_from
+  from h = ap (value_from base v) (drop-cons s i 0 h)
+
+  pub value_passes : {d : ℕ} → i < length s → digit_of base (get_or s i 0) ≡ Some d
+      → value_from base v (drop i s) ≡ value_from base (v * base_of base + d) (drop (i + 1) s)
+  value_passes h e =
+      rw add-one (from h ∙ ap (λ (o : Option ℕ). cond (is_some o) (value_from base (v * base_of base + unwrap_or o 0) (drop (suc i) s)) None) e)
+
+  pub value_stops : i < length s → digit_of base (get_or s i 0) ≡ None → value_from base v (drop i s) ≡ None
+  value_stops h e =
+      from h ∙ ap (λ (o : Option ℕ). cond (is_some o) (value_from base (v * base_of base + unwrap_or o 0) (drop (suc i) s)) None) e
+
+  pub value_ends : length s ≤ i → value_from base v (drop i s) ≡ Some v
+  unfolding value_from
+  value_ends h = ap (value_from base v) (drop_of_length-le s h)
+
+-- the number so far with one digit more fits, and is below the next power of 16
+pub number_more : (base : Base) (v i d : ℕ) → v < 16 ^ i → i < 8 → d < 16 → v * base_of base + d < 4294967296
+number_more base v i d h k l = omega (arith, scaled base v (16 ^ i) d h l, power_most i k)
+
+pub power_more : (base : Base) (v i d : ℕ) → v < 16 ^ i → d < 16 → v * base_of base + d < 16 ^ (i + 1)
+power_more base v i d h l = rw add-one (omega (arith, pow-suc 16 i, scaled base v (16 ^ i) d h l))
+
+pub some_small : (base : Base) (b : ℕ) {d : ℕ} → digit_of base b ≡ Some d → d < 16
+some_small base b e = omega (arith, digit_small base b, ap (λ (o : Option ℕ). unwrap_or o 0) e)

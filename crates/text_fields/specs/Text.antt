@@ -1,5 +1,9 @@
 -- Text: lines, the fields of a line, and numbers in fields.
-use Rattle.std.specs.Prelude.{ℕ, zero, suc, ◌+◌, ◌-◌, ◌*◌, Bool, true, false, not, ◌&&◌, ◌||◌, cond, List, [], ◌∷◌, eqb, leb, ltb, length, take, drop}
+use Rattle.std.specs.Prelude.{ℕ, zero, suc, ◌+◌, ◌-◌, ◌*◌, Bool, true, false, not, ◌&&◌, ◌||◌, cond, List, [], ◌∷◌, eqb, leb, length, take, drop, Option, Some, None, is_some, unwrap_or, ◌≡◌, ◌<◌}
+use Rattle.std.specs.Str.{bytes_eq}
+use Rattle.text_fields.specs.declared.Base.{Base}
+use Rattle.text_fields.specs.declared.Base.TheVariants.{Decimal, Hex}
+use Rattle.text_fields.specs.declared.Numeral.{Numeral}
 
 -- the bytes from one place up to, not including, another
 abbrev pub part : (from to : ℕ) → List ℕ → List ℕ
@@ -43,6 +47,10 @@ unfoldable pub run : (ℕ → Bool) → List ℕ → ℕ
 run p [] = 0
 run p (b ∷ s) = cond (p b) (suc (run p s)) 0
 
+-- a test of bytes by its calls: each gives what the test says
+abbrev pub TellsBy : (call : ℕ → Bool → Type 0) → (ℕ → Bool) → Type 0
+TellsBy call p = (b : ℕ) (r : Bool) → b < 256 → call b r → r ≡ p b
+
 -- the first place from `at` on whose byte does not pass a test, or the end
 abbrev pub run_end : (ℕ → Bool) → ℕ → List ℕ → ℕ
 run_end p at s = at + run p (drop at s)
@@ -65,47 +73,46 @@ unfoldable pub no_field : ℕ → List ℕ → Bool
 no_field k line = eqb (field_start k line) (field_end k line)
 
 -- the same bytes
-unfoldable pub same : List ℕ → List ℕ → Bool
-same [] [] = true
-same [] (b ∷ t) = false
-same (a ∷ s) [] = false
-same (a ∷ s) (b ∷ t) = eqb a b && same s t
+abbrev pub same : List ℕ → List ℕ → Bool
+same s t = bytes_eq s t
 
 -- ---- numbers
 
--- what is no number; every number is below it
-abbrev pub no_number : ℕ
-no_number = 4294967296
+abbrev pub base_of : Base → ℕ
+base_of Decimal = 10
+base_of Hex = 16
 
--- decimal or hex
-abbrev pub base_of : (hex : Bool) → ℕ
-base_of true = 16
-base_of false = 10
-
--- what is no digit
-abbrev pub no_digit : ℕ
-no_digit = 16
+abbrev pub is_hex : Base → Bool
+is_hex Decimal = false
+is_hex Hex = true
 
 -- '0' to '9'; in hex also 'A' to 'F' and 'a' to 'f'
-unfoldable pub digit_of : (hex : Bool) → ℕ → ℕ
-digit_of hex b =
-    cond (leb 0x30 b && leb b 0x39) (b - 0x30)
-    (cond (hex && (leb 0x41 b && leb b 0x46)) (b - 0x37)
-    (cond (hex && (leb 0x61 b && leb b 0x66)) (b - 0x57) no_digit))
+unfoldable pub digit_of : Base → ℕ → Option ℕ
+digit_of base b =
+    cond (leb 0x30 b && leb b 0x39) (Some (b - 0x30))
+    (cond (is_hex base && (leb 0x41 b && leb b 0x46)) (Some (b - 0x41 + 10))
+    (cond (is_hex base && (leb 0x61 b && leb b 0x66)) (Some (b - 0x61 + 10)) None))
+
+abbrev pub is_digit : Base → ℕ → Bool
+is_digit base b = is_some (digit_of base b)
+
+-- the number that a digit is
+abbrev pub digit_value : Base → ℕ → ℕ
+digit_value base b = unwrap_or (digit_of base b) 0
 
 -- the digits read on, with the number so far
-unfoldable pub value_from : (hex : Bool) → ℕ → List ℕ → ℕ
-value_from hex n [] = n
-value_from hex n (b ∷ s) = cond (ltb (digit_of hex b) no_digit) (value_from hex (n * base_of hex + digit_of hex b) s) no_number
+unfoldable pub value_from : Base → ℕ → List ℕ → Option ℕ
+value_from base n [] = Some n
+value_from base n (b ∷ s) = cond (is_digit base b) (value_from base (n * base_of base + digit_value base b) s) None
 
 -- a number has so many digits, and never more than 8
-unfoldable pub width_allowed : (least most n : ℕ) → Bool
-width_allowed least most n = leb least n && leb n most && leb n 8
+unfoldable pub width_allowed : Numeral → (n : ℕ) → Bool
+width_allowed form n = leb form.least n && leb n form.most && leb n 8
 
 -- the number that a field is
-unfoldable pub number_of : (hex : Bool) (least most : ℕ) → List ℕ → ℕ
-number_of hex least most s = cond (width_allowed least most (length s)) (value_from hex 0 s) no_number
+unfoldable pub number_of : Numeral → List ℕ → Option ℕ
+number_of form s = cond (width_allowed form (length s)) (value_from form.base 0 s) None
 
 -- the number that field k is
-abbrev pub number_at : (hex : Bool) (least most k : ℕ) → List ℕ → ℕ
-number_at hex least most k line = number_of hex least most (field k line)
+abbrev pub number_at : Numeral → (k : ℕ) → List ℕ → Option ℕ
+number_at form k line = number_of form (field k line)

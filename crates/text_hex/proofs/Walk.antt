@@ -1,5 +1,5 @@
 -- Hex text, character by character.
-use Rattle.std.proofs.Common.{◌≡◌, ℕ, ◌+◌, ◌*◌, ◌%◌, Bool, true, false, cond, not, ◌||◌, eqb, List, [], ◌∷◌, ◌++◌, sym, refl, ap, ◌∙◌, subst, mod-eq_of_lt, ltb-true, eqb-true}
+use Rattle.std.proofs.Common.{◌≡◌, ℕ, ◌+◌, ◌*◌, ◌%◌, Bool, true, false, cond, not, ◌||◌, eqb, List, [], ◌∷◌, ◌++◌, sym, refl, ap, ◌∙◌, subst, mod-eq_of_lt, eqb-true}
 use borrow.Author.Tests.{not-true}
 use Rattle.bits.proofs.Tests.{both_left, both_right, both}
 use Rattle.text_hex.specs.declared.Within.{Within}
@@ -7,7 +7,9 @@ use Rattle.text_hex.specs.declared.Within.TheVariants.{Gap, Byte, Comment}
 use Rattle.text_hex.specs.declared.Turn.{Turn}
 use Rattle.text_hex.specs.declared.Turn.TheVariants.{Goes, Completes, Bad}
 use Rattle.text_fields.specs.Text.{is_blank, is_line_end, starts_comment, digit_of}
-use Rattle.text_hex.specs.Text.{is_digit, separates, byte_of, in_gap, in_byte, in_comment, turn_of}
+use Rattle.text_hex.specs.Text.{is_digit, digit_value, separates, byte_of, in_gap, in_byte, in_comment, turn_of}
+use Rattle.text_fields.specs.declared.Base.TheVariants.{Hex}
+use Rattle.text_fields.proofs.Numbers.{digit_small as value_small}
 use Rattle.text_hex.specs.Grammar.{in_one_line, HexText}
 use Rattle.text_hex.specs.Grammar.HexText.{nothing, blank, byte, comment, last}
 
@@ -38,8 +40,8 @@ separator_no_digit c h =
     (same_digit c 0x0A refl)
     h
 
-digit_small : (c : ℕ) → is_digit c ≡ true → digit_of true c % 16 ≡ digit_of true c
-digit_small c h = mod-eq_of_lt (ltb-true (digit_of true c) 16 h)
+digit_small : (c : ℕ) → is_digit c ≡ true → digit_value c % 16 ≡ digit_value c
+digit_small c h = mod-eq_of_lt (value_small Hex c)
 
 -- ---- what each character does
 
@@ -47,7 +49,7 @@ pub separator_goes : (c : ℕ) → separates c ≡ true → turn_of Gap c ≡ Go
 unfolding turn_of in_gap
 separator_goes c h = simp (separator_no_digit c h, h)
 
-pub digit_goes : (c : ℕ) → is_digit c ≡ true → turn_of Gap c ≡ Goes (Byte (digit_of true c))
+pub digit_goes : (c : ℕ) → is_digit c ≡ true → turn_of Gap c ≡ Goes (Byte (digit_value c))
 unfolding turn_of in_gap
 digit_goes c h = simp h
 
@@ -55,15 +57,15 @@ pub hash_goes : turn_of Gap 0x23 ≡ Goes Comment
 unfolding turn_of in_gap separates is_blank digit_of
 hash_goes = refl
 
-pub low_completes : (h c : ℕ) → is_digit c ≡ true → turn_of (Byte h) c ≡ Completes (byte_of h (digit_of true c))
+pub low_completes : (h c : ℕ) → is_digit c ≡ true → turn_of (Byte h) c ≡ Completes (byte_of h (digit_value c))
 unfolding turn_of in_byte
 low_completes h c e = simp e
 
-plain_byte : (high low : ℕ) → is_digit high ≡ true → is_digit low ≡ true → byte_of (digit_of true high) (digit_of true low) ≡ digit_of true high * 16 + digit_of true low
+plain_byte : (high low : ℕ) → is_digit high ≡ true → is_digit low ≡ true → byte_of (digit_value high) (digit_value low) ≡ digit_value high * 16 + digit_value low
 plain_byte high low h l = rw (digit_small high h, digit_small low l)
 
-pair_completes : (high low : ℕ) → is_digit high ≡ true → is_digit low ≡ true → turn_of (Byte (digit_of true high)) low ≡ Completes (digit_of true high * 16 + digit_of true low)
-pair_completes high low h l = low_completes (digit_of true high) low l ∙ ap Completes (plain_byte high low h l)
+pair_completes : (high low : ℕ) → is_digit high ≡ true → is_digit low ≡ true → turn_of (Byte (digit_value high)) low ≡ Completes (digit_value high * 16 + digit_value low)
+pair_completes high low h l = low_completes (digit_value high) low l ∙ ap Completes (plain_byte high low h l)
 
 pub line_end_goes : turn_of Comment 0x0A ≡ Goes Gap
 unfolding turn_of in_comment
@@ -100,22 +102,22 @@ walked (last {line} h) = goes hash_goes (in_last line h)
 
 -- what a character does, and why
 pub data Does : Within → ℕ → Turn → Type 0 where
-  digit : {c : ℕ} → is_digit c ≡ true → Does Gap c (Goes (Byte (digit_of true c)))
+  digit : {c : ℕ} → is_digit c ≡ true → Does Gap c (Goes (Byte (digit_value c)))
   space : {c : ℕ} → separates c ≡ true → Does Gap c (Goes Gap)
   hash : {c : ℕ} → starts_comment c ≡ true → Does Gap c (Goes Comment)
-  low : {h c : ℕ} → is_digit c ≡ true → Does (Byte h) c (Completes (byte_of h (digit_of true c)))
+  low : {h c : ℕ} → is_digit c ≡ true → Does (Byte h) c (Completes (byte_of h (digit_value c)))
   line_end : {c : ℕ} → is_line_end c ≡ true → Does Comment c (Goes Gap)
   in_line_lem : {c : ℕ} → is_line_end c ≡ false → Does Comment c (Goes Comment)
   none : {w : Within} {c : ℕ} → Does w c Bad
 
 gap_does : (c : ℕ) (d b s : Bool) → is_digit c ≡ d → separates c ≡ b → starts_comment c ≡ s
-    → Does Gap c (cond d (Goes (Byte (digit_of true c))) (cond b (Goes Gap) (cond s (Goes Comment) Bad)))
+    → Does Gap c (cond d (Goes (Byte (digit_value c))) (cond b (Goes Gap) (cond s (Goes Comment) Bad)))
 gap_does c true b s e f g = digit e
 gap_does c false true s e f g = space f
 gap_does c false false true e f g = hash g
 gap_does c false false false e f g = none
 
-byte_does : (h c : ℕ) (d : Bool) → is_digit c ≡ d → Does (Byte h) c (cond d (Completes (byte_of h (digit_of true c))) Bad)
+byte_does : (h c : ℕ) (d : Bool) → is_digit c ≡ d → Does (Byte h) c (cond d (Completes (byte_of h (digit_value c))) Bad)
 byte_does h c true e = low e
 byte_does h c false e = none
 
@@ -132,11 +134,11 @@ does Comment c = comment_does c (is_line_end c) refl
 -- the rest of a text, in the grammar's terms
 data Rest : Within → (text bytes : List ℕ) → Type 0 where
   at_gap : {text bytes : List ℕ} → HexText text bytes → Rest Gap text bytes
-  at_low : {h l : ℕ} {text bytes : List ℕ} → is_digit l ≡ true → HexText text bytes → Rest (Byte h) (l ∷ text) (byte_of h (digit_of true l) ∷ bytes)
+  at_low : {h l : ℕ} {text bytes : List ℕ} → is_digit l ≡ true → HexText text bytes → Rest (Byte h) (l ∷ text) (byte_of h (digit_value l) ∷ bytes)
   at_line : (line : List ℕ) {text bytes : List ℕ} → in_one_line line ≡ true → HexText text bytes → Rest Comment (line ++ 0x0A ∷ text) bytes
   at_last : {line : List ℕ} → in_one_line line ≡ true → Rest Comment line []
 
-back_digit : (c : ℕ) {text bytes : List ℕ} → is_digit c ≡ true → Rest (Byte (digit_of true c)) text bytes → HexText (c ∷ text) bytes
+back_digit : (c : ℕ) {text bytes : List ℕ} → is_digit c ≡ true → Rest (Byte (digit_value c)) text bytes → HexText (c ∷ text) bytes
 back_digit c e (at_low {l = l} {text = text} {bytes = bytes} f r) =
     subst (λ (b : ℕ). HexText (c ∷ l ∷ text) (b ∷ bytes)) (sym (plain_byte c l e f)) (byte e f r)
 

@@ -2,4 +2,3 @@ pub mod Text
 pub mod Packing
 pub mod Grammar
 pub mod Places
-pub mod inner

@@ -8,6 +8,7 @@ use Rattle.text_hex.specs.declared.Turn.TheVariants.{Goes, Completes, Bad}
 use Rattle.text_hex.specs.declared.Packing.{Packing}
 use Rattle.text_hex.specs.declared.Packed.{Packed}
 use Rattle.text_hex.specs.declared.Step.{Step}
+use Rattle.text_hex.specs.declared.Step.TheVariants.{Stops, Passes, Puts}
 use Rattle.text_fields.specs.Text.{is_line_end}
 use Rattle.text_hex.specs.Text.{turn_of}
 
@@ -42,37 +43,21 @@ past c within p =
 unfoldable pub spoiled : Packing → Packing
 spoiled p = record { within = p.within; bad = true; line = p.line; column = p.column }
 
--- the packing stops before the character
-abbrev pub stops_at : Packing → Step
-stops_at p = record { stops = true; gives = false; byte = 0; after = p }
-
--- the character is passed
-abbrev pub passes : Packing → Step
-passes p = record { stops = false; gives = false; byte = 0; after = p }
-
--- the character is passed and a byte is put
-abbrev pub puts : ℕ → Packing → Step
-puts b p = record { stops = false; gives = true; byte = b; after = p }
-
 -- a turn, where so many bytes fit the room
 unfoldable pub step_by : Turn → Packing → ℕ → (room : ℕ) → Step
-step_by (Goes within) p c room = passes (past c within p)
-step_by (Completes b) p c room = cond (room == 0) (stops_at p) (puts b (past c Gap p))
-step_by Bad p c room = stops_at (spoiled p)
+step_by (Goes within) p c room = Passes (past c within p)
+step_by (Completes b) p c room = cond (room == 0) (Stops p) (Puts b (past c Gap p))
+step_by Bad p c room = Stops (spoiled p)
 
 -- nothing follows a bad character
 unfoldable pub step_of : Packing → ℕ → (room : ℕ) → Step
-step_of p c room = cond p.bad (stops_at p) (step_by (turn_of p.within c) p c room)
+step_of p c room = cond p.bad (Stops p) (step_by (turn_of p.within c) p c room)
 
 -- what a text gives: how far it is packed, how many characters were consumed, and the bytes
 pub record Given : Type 0 where
   pub after : Packing
   pub consumed : ℕ
   pub bytes : List ℕ
-
--- the byte that a step puts, if any
-abbrev pub put_by : Step → List ℕ
-put_by s = cond s.gives (s.byte ∷ []) []
 
 -- nothing more
 abbrev pub ends : Packing → Given
@@ -82,12 +67,16 @@ ends p = record { after = p; consumed = 0; bytes = [] }
 abbrev pub later : ℕ → List ℕ → Given → Given
 later n bytes g = record { after = g.after; consumed = n + g.consumed; bytes = bytes ++ g.bytes }
 
+-- what a step gives, and then the rest of the text
+abbrev pub stepped : Step → (rest : Packing → ℕ → Given) → (room : ℕ) → Given
+stepped (Stops p) rest room = ends p
+stepped (Passes p) rest room = later 1 [] (rest p room)
+stepped (Puts b p) rest room = later 1 (b ∷ []) (rest p (room - 1))
+
 -- a text packed into a room for so many bytes
 unfoldable pub packs : Packing → List ℕ → (room : ℕ) → Given
 packs p [] room = ends p
-packs p (c ∷ text) room =
-    let s = step_of p c room in
-    cond s.stops (ends s.after) (later 1 (put_by s) (packs s.after text (room - length (put_by s))))
+packs p (c ∷ text) room = stepped (step_of p c room) (λ q n. packs q text n) room
 
 -- what a call leaves: its result, and the room
 pub record Left : Type 0 where

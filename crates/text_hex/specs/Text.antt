@@ -5,8 +5,9 @@
 --   comment  '#' and all that follows it in the line
 --
 -- Blanks, line ends and digits are those of `text_fields`.
-use Rattle.std.specs.Prelude.{ℕ, ◌+◌, ◌*◌, ◌%◌, Bool, true, cond, ◌||◌, nat_lt}
-use Rattle.text_fields.specs.Text.{is_blank, is_line_end, starts_comment, no_digit, digit_of}
+use Rattle.std.specs.Prelude.{ℕ, ◌+◌, ◌*◌, ◌%◌, Bool, cond, ◌||◌}
+use Rattle.text_fields.specs.Text.{is_blank, is_line_end, starts_comment, is_digit as is_digit_in, digit_value as value_in}
+use Rattle.text_fields.specs.declared.Base.TheVariants.{Hex}
 use Rattle.text_hex.specs.declared.Within.{Within}
 use Rattle.text_hex.specs.declared.Within.TheVariants.{Gap, Byte, Comment}
 use Rattle.text_hex.specs.declared.Turn.{Turn}
@@ -14,7 +15,11 @@ use Rattle.text_hex.specs.declared.Turn.TheVariants.{Goes, Completes, Bad}
 
 -- whether a character is a digit
 abbrev pub is_digit : ℕ → Bool
-is_digit c = nat_lt (digit_of true c) no_digit
+is_digit c = is_digit_in Hex c
+
+-- the number that it is
+abbrev pub digit_value : ℕ → ℕ
+digit_value c = value_in Hex c
 
 -- what may stand between bytes, beside comments
 unfoldable pub separates : ℕ → Bool
@@ -27,13 +32,13 @@ byte_of high low = high % 16 * 16 + low % 16
 -- a character between two bytes
 unfoldable pub in_gap : ℕ → Turn
 in_gap c =
-    cond (is_digit c) (Goes (Byte (digit_of true c)))
+    cond (is_digit c) (Goes (Byte (digit_value c)))
     (cond (separates c) (Goes Gap)
     (cond (starts_comment c) (Goes Comment) Bad))
 
 -- a character in a byte, after its first digit
 unfoldable pub in_byte : (high : ℕ) → ℕ → Turn
-in_byte high c = cond (is_digit c) (Completes (byte_of high (digit_of true c))) Bad
+in_byte high c = cond (is_digit c) (Completes (byte_of high (digit_value c))) Bad
 
 -- a character in a comment
 unfoldable pub in_comment : ℕ → Turn

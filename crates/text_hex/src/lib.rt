@@ -2,11 +2,10 @@
 #![tactic(auto)]
 
 ghost use Rattle.std.specs.Prelude.{◌≡◌};
-ghost use Rattle.text_hex.specs.Text.{is_digit, separates as separates_of, byte_of, in_gap, in_byte, in_comment, turn_of};
-ghost use Rattle.text_hex.specs.Packing.{start as start_of, one_more, is_between, is_whole, past as past_of, spoiled, stops_at, passes, puts, step_by, step_of, left, leaves};
-ghost use Rattle.text_hex.specs.inner.Room.{placed, held};
+ghost use Rattle.text_hex.specs.Text.{separates as separates_of, byte_of, in_gap, in_byte, in_comment, turn_of};
+ghost use Rattle.text_hex.specs.Packing.{start as start_of, one_more, is_between, is_whole, past as past_of, spoiled, step_by, step_of, left, leaves};
 
-use text_fields::{NO_DIGIT, digit_of, is_blank};
+use text_fields::{Base, digit_of, is_blank};
 
 // What the next character stands in.
 #[derive(Clone, Copy)]
@@ -23,6 +22,7 @@ pub enum Within {
 #[derive(Clone, Copy)]
 pub struct Packing {
     pub within: Within,
+    // Kept: a packing that met a bad character says by the other fields where it stands, so no value goes with one case alone.
     pub bad: bool,
     pub line: u64,
     pub column: u64,
@@ -47,26 +47,23 @@ enum Turn {
     Bad,
 }
 
-// What a character does in a room: whether the packing stops before it, whether it completes a byte, and which.
+// What a character does in a room, and how far the text is packed then.
 #[derive(Clone, Copy)]
-struct Step {
-    stops: bool,
-    gives: bool,
-    byte: u8,
-    after: Packing,
-}
-
-fn is_digit(c: u8) -> bool
-    ensures { result ≡ is_digit c }
-{
-    digit_of(true, c) < NO_DIGIT
+enum Step {
+    // The packing stops before it.
+    Stops(Packing),
+    // It is passed.
+    Passes(Packing),
+    // It is passed, and completes this byte.
+    Puts(u8, Packing),
 }
 
 // What may stand between bytes, beside comments: blanks and line ends.
+#[tactic(auto, unfolding(crate::specs::Text::separates))]
 fn separates(c: u8) -> bool
     ensures { result ≡ separates_of c }
 {
-    is_blank(c) | (c == 0x0A)
+    is_blank(c) || c == b'\n'
 }
 
 // The byte of two digits.
@@ -77,43 +74,45 @@ fn byte_of(high: u8, low: u8) -> u8
 }
 
 // A character between two bytes.
+#[tactic(auto, unfolding(crate::specs::Text::in_gap))]
 fn in_gap(c: u8) -> Turn
     ensures { result ≡ in_gap c }
 {
-    if is_digit(c) {
-        return Turn::Goes(Within::Byte(digit_of(true, c)));
+    if let Some(digit) = digit_of(Base::Hex, c) {
+        Turn::Goes(Within::Byte(digit))
+    } else if separates(c) {
+        Turn::Goes(Within::Gap)
+    } else if c == b'#' {
+        Turn::Goes(Within::Comment)
+    } else {
+        Turn::Bad
     }
-    if separates(c) {
-        return Turn::Goes(Within::Gap);
-    }
-    if c == 0x23 {
-        return Turn::Goes(Within::Comment);
-    }
-    Turn::Bad
 }
 
 // A character in a byte, after its first digit.
+#[tactic(auto, unfolding(crate::specs::Text::in_byte))]
 fn in_byte(high: u8, c: u8) -> Turn
     ensures { result ≡ in_byte high c }
 {
-    if is_digit(c) {
-        return Turn::Completes(byte_of(high, digit_of(true, c)));
+    match digit_of(Base::Hex, c) {
+        Some(low) => Turn::Completes(byte_of(high, low)),
+        None => Turn::Bad,
     }
-    Turn::Bad
 }
 
 // A character in a comment, which the line's end ends.
+#[tactic(auto, unfolding(crate::specs::Text::in_comment))]
 fn in_comment(c: u8) -> Turn
     ensures { result ≡ in_comment c }
 {
-    if c == 0x0A {
-        Turn::Goes(Within::Gap)
-    } else {
-        Turn::Goes(Within::Comment)
+    match c {
+        b'\n' => Turn::Goes(Within::Gap),
+        _ => Turn::Goes(Within::Comment),
     }
 }
 
 // What a character does where it stands.
+#[tactic(auto, unfolding(crate::specs::Text::turn_of))]
 fn turn_at(within: Within, c: u8) -> Turn
     ensures { result ≡ turn_of within c }
 {
@@ -143,7 +142,7 @@ fn is_between(within: Within) -> bool
 {
     match within {
         Within::Gap => true,
-        Within::Byte(high) => false,
+        Within::Byte(_) => false,
         Within::Comment => true,
     }
 }
@@ -152,121 +151,74 @@ fn is_between(within: Within) -> bool
 pub fn is_whole(p: Packing) -> bool
     ensures { result ≡ is_whole p }
 {
-    let within = p.within;
-    !p.bad & is_between(within)
+    !p.bad && is_between(p.within)
 }
 
+// Kept: lines and columns are counted modulo 2^64, as specs/Packing.one_more says.
 fn one_more(n: u64) -> u64
     ensures { result ≡ one_more n }
 {
-    std::num::wrapping_add_u64(n, 1)
+    n.wrapping_add(1)
 }
 
 // Past a character that isn't bad, and then within this.
+#[tactic(auto, unfolding(crate::specs::Packing::past))]
 fn past(c: u8, within: Within, p: Packing) -> Packing
     ensures { result ≡ past_of c within p }
 {
-    if c == 0x0A {
-        return Packing {
-            within: within,
+    if c == b'\n' {
+        Packing {
+            within,
             bad: false,
             line: one_more(p.line),
             column: 1,
-        };
-    }
-    Packing {
-        within: within,
-        bad: false,
-        line: p.line,
-        column: one_more(p.column),
+        }
+    } else {
+        Packing {
+            within,
+            bad: false,
+            line: p.line,
+            column: one_more(p.column),
+        }
     }
 }
 
 // At a bad character.
+#[tactic(auto, unfolding(crate::specs::Packing::spoiled))]
 fn spoil(p: Packing) -> Packing
     ensures { result ≡ spoiled p }
 {
-    let within = p.within;
-    Packing {
-        within: within,
-        bad: true,
-        line: p.line,
-        column: p.column,
-    }
-}
-
-fn stop_at(p: Packing) -> Step
-    ensures { result ≡ stops_at p }
-{
-    Step {
-        stops: true,
-        gives: false,
-        byte: 0,
-        after: p,
-    }
-}
-
-fn pass(p: Packing) -> Step
-    ensures { result ≡ passes p }
-{
-    Step {
-        stops: false,
-        gives: false,
-        byte: 0,
-        after: p,
-    }
-}
-
-fn give_byte(b: u8, p: Packing) -> Step
-    ensures { result ≡ puts b p }
-{
-    Step {
-        stops: false,
-        gives: true,
-        byte: b,
-        after: p,
-    }
+    Packing { bad: true, ..p }
 }
 
 // A turn, where so many bytes fit the room.
+#[tactic(auto, unfolding(crate::specs::Packing::step_by))]
 fn step_by(turn: Turn, p: Packing, c: u8, room: usize) -> Step
     ensures { result ≡ step_by turn p c room }
 {
     match turn {
-        Turn::Goes(within) => pass(past(c, within, p)),
+        Turn::Goes(within) => Step::Passes(past(c, within, p)),
         Turn::Completes(b) => {
             if room == 0 {
-                stop_at(p)
+                Step::Stops(p)
             } else {
-                give_byte(b, past(c, Within::Gap, p))
+                Step::Puts(b, past(c, Within::Gap, p))
             }
         }
-        Turn::Bad => stop_at(spoil(p)),
+        Turn::Bad => Step::Stops(spoil(p)),
     }
 }
 
 // Nothing follows a bad character.
+#[tactic(auto, unfolding(crate::specs::Packing::step_of))]
 fn step_at(p: Packing, c: u8, room: usize) -> Step
     ensures { result ≡ step_of p c room }
 {
     if p.bad {
-        return stop_at(p);
+        Step::Stops(p)
+    } else {
+        step_by(turn_at(p.within, c), p, c, room)
     }
-    let within = p.within;
-    step_by(turn_at(within, c), p, c, room)
-}
-
-// Puts a byte at an index, where one is given and there is room, and gives the index after it.
-fn place(room: &mut [u8], at: usize, gives: bool, b: u8) -> usize
-    ensures { held result room.new ≡ placed at gives b room.old }
-{
-    if gives {
-        if at < room.len() {
-            room[at] = b;
-            return at + 1;
-        }
-    }
-    at
 }
 
 // Packs a piece of text into the room, as far as there is room, and says how far the text is packed.
@@ -274,24 +226,27 @@ pub fn pack(first: Packing, text: &[u8], room: &mut [u8]) -> Packed
     ensures { left result room.new ≡ leaves first text.now room.old }
 {
     let mut p = first;
-    let mut i: usize = 0;
     let mut w: usize = 0;
-    while i < text.len() {
-        let s = step_at(p, text[i], room.len() - w);
-        p = s.after;
-        if s.stops {
-            return Packed {
-                after: p,
-                consumed: i,
-                written: w,
-            };
+    for (i, c) in text.iter().enumerate() {
+        match step_at(p, *c, room.len() - w) {
+            Step::Stops(after) => {
+                return Packed {
+                    after,
+                    consumed: i,
+                    written: w,
+                };
+            }
+            Step::Passes(after) => p = after,
+            Step::Puts(b, after) => {
+                room[w] = b;
+                w += 1;
+                p = after;
+            }
         }
-        w = place(&mut *room, w, s.gives, s.byte);
-        i += 1;
     }
     Packed {
         after: p,
-        consumed: i,
+        consumed: text.len(),
         written: w,
     }
 }

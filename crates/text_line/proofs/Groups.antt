@@ -1,4 +1,4 @@
--- Numbers in groups of three digits: the groups one by one, and the digits without the commas.
+-- Numbers in groups of three digits: the digits without the commas.
 use Prim.Native.Nat.{ℕ, zero, suc, ◌+◌, ◌*◌, ◌/◌, ◌%◌, ◌^◌, ◌≤◌, ◌<◌}
 use mathlib.Core.Path.{◌≡◌, refl, ap, ap₂, sym, ◌∙◌}
 use mathlib.Core.Bool.{Bool, true, false, cond}
@@ -9,45 +9,6 @@ use borrow.Author.Tests.{le-ltb, ltb-true, ltb-false, eq-eqb, ne_eqb, eqb-true}
 use lib.Dec.{eqb, ltb}
 use Rattle.bits.specs.Text.{chars}
 use Rattle.text_line.specs.Text.{glyph_of, decimal_from, decimal_of, three_of, grouped_from, grouped_of, without_commas}
-use Rattle.text_line.specs.inner.Groups.{last_group, higher_group}
-
--- ---- the groups one by one
-
-groups : (most : ℕ) → ℕ → List ℕ
-groups most n = cond (eqb n 0) [] (grouped_from most n)
-
-abbrev pub higher : (most : ℕ) → ℕ → List ℕ
-higher zero n = []
-higher (suc most) n = higher most (n / 1000) ++ higher_group n
-
-one_group : (most n : ℕ) (t : Bool) → ltb n 1000 ≡ t → grouped_from (suc most) n ≡ groups most (n / 1000) ++ last_group n
-unfolding groups grouped_from last_group
-one_group most n true e =
-    let s : n < 1000 = ltb-true n 1000 e in
-    rw (e, eq-eqb (n / 1000) 0 (omega arith)) refl
-one_group most n false e =
-    let s : 1000 ≤ n = ltb-false n 1000 e in
-    rw (e, ne_eqb (n / 1000) 0 (λ z. omega arith)) (append_assoc (grouped_from most (n / 1000)) (chars ",") (three_of n))
-
-no_group : (n : ℕ) (t : Bool) → eqb n 0 ≡ t → groups zero n ≡ higher zero n
-unfolding groups grouped_from
-no_group n true e = rw e refl
-no_group n false e = rw e refl
-
-by_group : (most n : ℕ) (t : Bool) → eqb n 0 ≡ t → groups (suc most) n ≡ groups most (n / 1000) ++ higher_group n
-unfolding groups higher_group
-by_group most n true e =
-    let z : n ≡ 0 = eqb-true n 0 e in
-    rw (e, eq-eqb (n / 1000) 0 (omega arith)) refl
-by_group most n false e = rw e (one_group most n (ltb n 1000) refl)
-
-all_groups : (most n : ℕ) → groups most n ≡ higher most n
-all_groups zero n = no_group n (eqb n 0) refl
-all_groups (suc most) n = by_group most n (eqb n 0) refl ∙ ap (λ (l : List ℕ). l ++ higher_group n) (all_groups most (n / 1000))
-
--- a number in groups is its higher groups and the last
-pub group_by_group : (n : ℕ) → higher 6 (n / 1000) ++ last_group n ≡ grouped_of n
-group_by_group n = sym (one_group 6 n (ltb n 1000) refl ∙ ap (λ (l : List ℕ). l ++ last_group n) (all_groups 6 (n / 1000)))
 
 -- ---- without commas
 

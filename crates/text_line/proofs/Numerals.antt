@@ -10,19 +10,6 @@ use lib.Dec.{leb}
 use Rattle.io.specs.Digits.{hex_digit_ascii, last_digits, IsDigitCount}
 use Rattle.text_line.specs.Text.{glyph_of, hex_of, decimal_from}
 
--- the last hex digits are those above and those below
-pub hex_three : (n : ℕ) → hex_of 1 (n / 256) ++ hex_of 2 n ≡ hex_of 3 n
-unfolding hex_of
-hex_three n = rw (div-div-eq-div-mul n 16 16)
-
-pub hex_four : (n : ℕ) → hex_of 2 (n / 256) ++ hex_of 2 n ≡ hex_of 4 n
-unfolding hex_of
-hex_four n = rw (div-div-eq-div-mul n 16 16)
-
-pub hex_eight : (n : ℕ) → hex_of 4 (n / 65536) ++ hex_of 4 n ≡ hex_of 8 n
-unfolding hex_of
-hex_eight n = simp div-div-eq-div-mul
-
 -- ---- decimal
 
 glyph_same : (d : ℕ) → d < 10 → hex_digit_ascii d ≡ glyph_of d

@@ -1,41 +1,29 @@
-// Texts and numbers put into a line.
-ghost use Rattle.std.specs.Prelude.{◌≡◌, cond, [], ◌∷◌};
-ghost use Rattle.text_line.specs.Line.{Put};
+// A page, and texts and numbers put on it.
+ghost use Rattle.std.specs.Prelude.{◌≡◌, cond, List, [], ◌∷◌, ℕ, take, ◌≤◌, length};
+ghost use Rattle.text_line.specs.Page.{put};
 ghost use Rattle.text_line.specs.Text.{glyph_of, hex_of, decimal_of, three_of, six_of, grouped_of, named, text_if, short_margin, margin_of, column_of, spaced_of, bytes_of};
-ghost use Rattle.text_line.specs.inner.Groups.{higher_group, last_group};
+
+use std::marker::Model;
 
 // The longest line that is written.
 pub const LINE: usize = 1024;
 
-pub fn put_byte(line: &mut [u8], at: usize, b: u8) -> usize
-    ensures { Put (b ∷ []) at line.old result line.new }
-{
-    if at < line.len() {
-        line[at] = b;
-        return at + 1;
-    }
-    at
+// How many bytes a page has room for: the longest text that is put at once.
+pub const PAGE: usize = 131072;
+
+// Text, as far as it was put.
+#[derive(Drop)]
+pub struct Page {
+    bytes: [u8; PAGE],
+    count: usize,
 }
 
-pub fn put_text(line: &mut [u8], at: usize, text: &[u8]) -> usize
-    ensures { Put text.now at line.old result line.new }
-{
-    let mut next = at;
-    let mut i: usize = 0;
-    while i < text.len() {
-        next = put_byte(&mut *line, next, text[i]);
-        i += 1;
-    }
-    next
-}
+impl Model for Page {
+    ghost Value = { List ℕ };
 
-// A number in decimal.
-pub fn put_decimal(line: &mut [u8], at: usize, n: u64) -> usize
-    ensures { Put (decimal_of n) at line.old result line.new }
-{
-    let mut digits = [0u8; 20];
-    let k = io::decimal(n, &mut digits);
-    put_text(line, at, &digits[..k])
+    ghost view = { λ p. take p.count p.bytes };
+
+    ghost invariant = { λ p. p.count ≤ 131072 };
 }
 
 // The character of a digit below 16, in upper case.
@@ -43,180 +31,185 @@ fn glyph(n: u8) -> u8
     ensures { result ≡ glyph_of n }
 {
     if n < 10 {
-        return 0x30 + n;
-    }
-    if n < 16 {
-        return 0x37 + n;
-    }
-    0x3F
-}
-
-// The last hex digit of a number.
-pub fn put_hex1(line: &mut [u8], at: usize, n: u64) -> usize
-    ensures { Put (hex_of 1 n) at line.old result line.new }
-{
-    put_byte(line, at, glyph((n % 16) as u8))
-}
-
-// The last two, three, four and eight hex digits.
-pub fn put_hex2(line: &mut [u8], at: usize, n: u64) -> usize
-    ensures { Put (hex_of 2 n) at line.old result line.new }
-{
-    let next = put_hex1(&mut *line, at, n / 16);
-    put_hex1(line, next, n)
-}
-
-pub fn put_hex3(line: &mut [u8], at: usize, n: u64) -> usize
-    ensures { Put (hex_of 3 n) at line.old result line.new }
-{
-    let next = put_hex1(&mut *line, at, n / 256);
-    put_hex2(line, next, n)
-}
-
-pub fn put_hex4(line: &mut [u8], at: usize, n: u64) -> usize
-    ensures { Put (hex_of 4 n) at line.old result line.new }
-{
-    let next = put_hex2(&mut *line, at, n / 256);
-    put_hex2(line, next, n)
-}
-
-pub fn put_hex8(line: &mut [u8], at: usize, n: u64) -> usize
-    ensures { Put (hex_of 8 n) at line.old result line.new }
-{
-    let next = put_hex4(&mut *line, at, n / 65536);
-    put_hex4(line, next, n)
-}
-
-// The last three decimal digits, zeros in front.
-pub fn put_three(line: &mut [u8], at: usize, n: u64) -> usize
-    ensures { Put (three_of n) at line.old result line.new }
-{
-    let a = put_byte(&mut *line, at, glyph((n / 100 % 10) as u8));
-    let b = put_byte(&mut *line, a, glyph((n / 10 % 10) as u8));
-    put_byte(line, b, glyph((n % 10) as u8))
-}
-
-// The last six.
-pub fn put_six(line: &mut [u8], at: usize, n: u64) -> usize
-    ensures { Put (six_of n) at line.old result line.new }
-{
-    let next = put_three(&mut *line, at, n / 1000);
-    put_three(line, next, n)
-}
-
-// The last group of three digits, after a comma where digits stand before it.
-fn put_last_group(line: &mut [u8], at: usize, n: u64) -> usize
-    ensures { Put (last_group n) at line.old result line.new }
-{
-    if n < 1000 {
-        return put_decimal(line, at, n);
-    }
-    let next = put_text(&mut *line, at, b",");
-    put_three(line, next, n)
-}
-
-// The same of a group before the last, where there is one.
-fn put_higher_group(line: &mut [u8], at: usize, n: u64) -> usize
-    ensures { Put (higher_group n) at line.old result line.new }
-{
-    if n == 0 {
-        return at;
-    }
-    put_last_group(line, at, n)
-}
-
-// A number in decimal, with a comma before each three digits from the right. Below 2^64 there are at most seven groups.
-pub fn put_grouped(line: &mut [u8], at: usize, n: u64) -> usize
-    ensures { Put (grouped_of n) at line.old result line.new }
-{
-    let k = n / 1000;
-    let m = k / 1000;
-    let g = m / 1000;
-    let t = g / 1000;
-    let p = t / 1000;
-    let a = put_higher_group(&mut *line, at, p / 1000);
-    let b = put_higher_group(&mut *line, a, p);
-    let c = put_higher_group(&mut *line, b, t);
-    let d = put_higher_group(&mut *line, c, g);
-    let e = put_higher_group(&mut *line, d, m);
-    let f = put_higher_group(&mut *line, e, k);
-    put_last_group(line, f, n)
-}
-
-// A name and a number after it.
-pub fn put_named(line: &mut [u8], at: usize, name: &[u8], n: u64) -> usize
-    ensures { Put (named name.now n) at line.old result line.new }
-{
-    let next = put_text(&mut *line, at, name);
-    put_decimal(line, next, n)
-}
-
-// One of two texts.
-pub fn put_either(line: &mut [u8], at: usize, first: bool, a: &[u8], b: &[u8]) -> usize
-    ensures { Put (cond first a.now b.now) at line.old result line.new }
-{
-    if first {
-        put_text(line, at, a)
+        0x30 + n
+    } else if n < 16 {
+        0x37 + n
     } else {
-        put_text(line, at, b)
+        0x3F
     }
 }
 
-// The text where it applies.
-pub fn put_if(line: &mut [u8], at: usize, applies: bool, text: &[u8]) -> usize
-    ensures { Put (text_if applies text.now) at line.old result line.new }
-{
-    if applies {
-        return put_text(line, at, text);
+impl Page {
+    // An empty page.
+    pub fn new() -> Page
+        ensures { result ≡ [] }
+    {
+        Page {
+            bytes: [0; PAGE],
+            count: 0,
+        }
     }
-    at
-}
 
-// Blanks before a number below 10,000, as many as three digits need.
-fn put_short_margin(line: &mut [u8], at: usize, n: u64) -> usize
-    ensures { Put (short_margin n) at line.old result line.new }
-{
-    let a = put_if(&mut *line, at, n < 10, b" ");
-    let b = put_if(&mut *line, a, n < 100, b" ");
-    put_if(line, b, n < 1000, b" ")
-}
-
-// Blanks before a number, so that numbers up to eight digits stand below one another.
-fn put_margin(line: &mut [u8], at: usize, n: u64) -> usize
-    ensures { Put (margin_of n) at line.old result line.new }
-{
-    let a = put_short_margin(&mut *line, at, n);
-    let b = put_if(&mut *line, a, n < 10000, b" ");
-    let c = put_if(&mut *line, b, n < 100000, b" ");
-    let d = put_if(&mut *line, c, n < 1000000, b" ");
-    put_if(line, d, n < 10000000, b" ")
-}
-
-// A number in a column of eight.
-pub fn put_column(line: &mut [u8], at: usize, n: u64) -> usize
-    ensures { Put (column_of n) at line.old result line.new }
-{
-    let next = put_margin(&mut *line, at, n);
-    put_decimal(line, next, n)
-}
-
-// A byte in two hex digits, after a blank where another stands before it.
-fn put_spaced(line: &mut [u8], at: usize, later: bool, b: u8) -> usize
-    ensures { Put (spaced_of later b) at line.old result line.new }
-{
-    let next = put_if(&mut *line, at, later, b" ");
-    put_hex2(line, next, b as u64)
-}
-
-// Bytes in two hex digits each, with blanks between them.
-pub fn put_bytes(line: &mut [u8], at: usize, bytes: &[u8]) -> usize
-    ensures { Put (bytes_of bytes.now) at line.old result line.new }
-{
-    let mut next = at;
-    let mut i: usize = 0;
-    while i < bytes.len() {
-        next = put_spaced(&mut *line, next, i > 0, bytes[i]);
-        i += 1;
+    // What was put.
+    pub fn text(&self) -> &[u8]
+        ensures { result.now ≡ self.now }
+    {
+        &self.bytes[..self.count]
     }
-    next
+
+    pub fn len(&self) -> usize
+        ensures { result ≡ length self.now }
+    {
+        self.count
+    }
+
+    pub fn clear(&mut self)
+        ensures { self.new ≡ [] }
+    {
+        self.count = 0;
+    }
+
+    pub fn put_byte(&mut self, b: u8)
+        ensures { self.new ≡ put (b ∷ []) self.old }
+    {
+        if self.count < PAGE {
+            self.bytes[self.count] = b;
+            self.count += 1;
+        }
+    }
+
+    pub fn put_text(&mut self, text: &[u8])
+        ensures { self.new ≡ put text.now self.old }
+    {
+        for b in text {
+            self.put_byte(*b);
+        }
+    }
+
+    // A number in decimal.
+    pub fn put_decimal(&mut self, n: u64)
+        ensures { self.new ≡ put (decimal_of n) self.old }
+    {
+        let mut digits = [0u8; 20];
+        let k = io::decimal(n, &mut digits);
+        self.put_text(&digits[..k]);
+    }
+
+    // The last k hex digits of a number.
+    #[tactic(auto, using(crate::proofs::Putting::putting), unfolding(crate::specs::Text::hex_of))]
+    pub fn put_hex(&mut self, k: usize, n: u64)
+        ensures { self.new ≡ put (hex_of k n) self.old }
+    {
+        if k > 0 {
+            self.put_hex(k - 1, n / 16);
+            self.put_byte(glyph((n % 16) as u8));
+        }
+    }
+
+    // The last three decimal digits, zeros in front.
+    #[tactic(auto, using(crate::proofs::Putting::putting), unfolding(crate::specs::Text::three_of))]
+    pub fn put_three(&mut self, n: u64)
+        ensures { self.new ≡ put (three_of n) self.old }
+    {
+        self.put_byte(glyph((n / 100 % 10) as u8));
+        self.put_byte(glyph((n / 10 % 10) as u8));
+        self.put_byte(glyph((n % 10) as u8));
+    }
+
+    // The last six.
+    #[tactic(auto, using(crate::proofs::Putting::putting), unfolding(crate::specs::Text::six_of))]
+    pub fn put_six(&mut self, n: u64)
+        ensures { self.new ≡ put (six_of n) self.old }
+    {
+        self.put_three(n / 1000);
+        self.put_three(n);
+    }
+
+    // A number in decimal, with a comma before each three digits from the right.
+    #[tactic(auto, using(crate::proofs::Putting::putting), unfolding(crate::specs::Text::grouped_from))]
+    pub fn put_grouped(&mut self, n: u64)
+        ensures { self.new ≡ put (grouped_of n) self.old }
+    {
+        if n < 1000 {
+            self.put_decimal(n);
+        } else {
+            self.put_grouped(n / 1000);
+            self.put_text(b",");
+            self.put_three(n);
+        }
+    }
+
+    // A name and a number after it.
+    pub fn put_named(&mut self, name: &[u8], n: u64)
+        ensures { self.new ≡ put (named name.now n) self.old }
+    {
+        self.put_text(name);
+        self.put_decimal(n);
+    }
+
+    // One of two texts.
+    pub fn put_either(&mut self, first: bool, a: &[u8], b: &[u8])
+        ensures { self.new ≡ put (cond first a.now b.now) self.old }
+    {
+        self.put_text(if first { a } else { b });
+    }
+
+    // The text where it applies.
+    #[tactic(auto, using(crate::proofs::Putting::putting), unfolding(crate::specs::Text::text_if))]
+    pub fn put_if(&mut self, applies: bool, text: &[u8])
+        ensures { self.new ≡ put (text_if applies text.now) self.old }
+    {
+        if applies {
+            self.put_text(text);
+        }
+    }
+
+    // Blanks before a number below 10,000, as many as three digits need.
+    #[tactic(auto, using(crate::proofs::Putting::putting), unfolding(crate::specs::Text::short_margin))]
+    fn put_short_margin(&mut self, n: u64)
+        ensures { self.new ≡ put (short_margin n) self.old }
+    {
+        self.put_if(n < 10, b" ");
+        self.put_if(n < 100, b" ");
+        self.put_if(n < 1000, b" ");
+    }
+
+    // Blanks before a number, so that numbers up to eight digits stand below one another.
+    #[tactic(auto, using(crate::proofs::Putting::putting), unfolding(crate::specs::Text::margin_of))]
+    fn put_margin(&mut self, n: u64)
+        ensures { self.new ≡ put (margin_of n) self.old }
+    {
+        self.put_short_margin(n);
+        self.put_if(n < 10000, b" ");
+        self.put_if(n < 100000, b" ");
+        self.put_if(n < 1000000, b" ");
+        self.put_if(n < 10000000, b" ");
+    }
+
+    // A number in a column of eight.
+    #[tactic(auto, using(crate::proofs::Putting::putting), unfolding(crate::specs::Text::column_of))]
+    pub fn put_column(&mut self, n: u64)
+        ensures { self.new ≡ put (column_of n) self.old }
+    {
+        self.put_margin(n);
+        self.put_decimal(n);
+    }
+
+    // A byte in two hex digits, after a blank where another stands before it.
+    #[tactic(auto, using(crate::proofs::Putting::putting), unfolding(crate::specs::Text::spaced_of))]
+    fn put_spaced(&mut self, later: bool, b: u8)
+        ensures { self.new ≡ put (spaced_of later b) self.old }
+    {
+        self.put_if(later, b" ");
+        self.put_hex(2, u64::from(b));
+    }
+
+    // Bytes in two hex digits each, with blanks between them.
+    pub fn put_bytes(&mut self, bytes: &[u8])
+        ensures { self.new ≡ put (bytes_of bytes.now) self.old }
+    {
+        for (i, b) in bytes.iter().enumerate() {
+            self.put_spaced(i > 0, *b);
+        }
+    }
 }

@@ -1,16 +1,11 @@
--- `card_text::read_card` meets its contract: its parts in turn.
-use Rattle.card_text.proofs.Reading.{reading}
+-- `card_text::read_card` meets its contract: where there is a card, 2,048 words are lent.
+use Rattle.std.proofs.Common.{◌≡◌, ℕ, length, sym, ◌∙◌}
+use Rattle.card_grammar.proofs.Kept.{if_ok}
+use Rattle.card_grammar.proofs.Laws.{Parts, parts}
 use Rattle.card_text.proofs.read_card.Goals as goal
 
-pub returns : goal.returns
-returns c =
-    let set = c in
-    let fined = set in
-    let stored = fined in
-    let second = stored in
-    let roomed = second in
-    let lacked = roomed in
-    let read = lacked in
-    let args = read.args in
-    reading args.text.now args.words.now read.read_lines-told.ensures lacked.missing.ensures roomed.room.ensures second.first.ensures second.first-why.ensures
-    stored.store_words.ensures fined.fine.ensures set.setup_from.ensures c.named_at.ensures
+pub copy_from_slice-requires : goal.copy_from_slice-requires
+copy_from_slice-requires c =
+    let lent : ℕ = length c.args.words.now in
+    let room : lent ≡ 2048 = (if_ok (Parts c.in_ok-lines.lines c.read_lines.new.named lent) (sym c.card_from.ensures ∙ c.in-Ok.is) (parts c.in_ok-lines.lines c.read_lines.new.named lent)).room in
+    room ∙ sym c.words_from.ensures.long

@@ -6,12 +6,10 @@ use Rattle.text_fields.specs.Text.{same}
 use Rattle.text_fields.proofs.Runs.{its_end_most, its_field}
 use Rattle.text_fields.proofs.field_is.Goals as goal
 
-pub slice_bounds-same_bytes-end : goal.slice_bounds-same_bytes-end
-slice_bounds-same_bytes-end c = its_end_most c.args.k c.args.line.now c.field_start-from.ensures c.field_end-to.ensures
+pub slice_bounds-eq-end : goal.slice_bounds-eq-end
+slice_bounds-eq-end c = its_end_most c.args.k c.args.line.now c.field_start-from.ensures c.field_end-to.ensures
 
 pub returns : goal.returns
 returns c =
-    let ended = c in
-    let args = ended.args in
-    c.same_bytes.ensures
-    ∙ ap (λ (s : List ℕ). same s args.word.now) (its_field args.k args.line.now ended.field_start-from.ensures ended.field_end-to.ensures)
+    let args = c.args in
+    c.eq.ensures ∙ ap (λ (s : List ℕ). same s args.word.now) (its_field args.k args.line.now c.field_start-from.ensures c.field_end-to.ensures)

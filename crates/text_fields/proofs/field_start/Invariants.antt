@@ -1,11 +1,7 @@
--- `text_fields::field_start` meets its contract. The loop's invariant: field i starts at `at`.
+-- `text_fields::field_start` meets its contract. The loop's invariant: after so many turns `at` is where that field starts.
 use mathlib.Core.Path.{◌≡◌}
-use Prim.Native.Nat.{◌-◌, ◌≤◌}
 use Rattle.text_fields.specs.Text.{field_start}
 use Rattle.text_fields.proofs.field_start.Given as goal
 
-abbrev pub invariant-loop-i : goal.invariant-loop-i
-invariant-loop-i l = (l.i ≤ l.k) × (l.at ≡ field_start l.i l.line)
-
-abbrev pub decreases-loop-i : goal.decreases-loop-i
-decreases-loop-i l = l.k - l.i
+abbrev pub invariant-loop : goal.invariant-loop
+invariant-loop l = l.at ≡ field_start l.counter l.line

@@ -1,7 +1,5 @@
 -- `text_fields::number_at` meets its contract: the part of the line between start and end is the field.
 use mathlib.Core.Path.{ap, ◌∙◌}
-use mathlib.Core.List.{List}
-use Prim.Native.Nat.{ℕ}
 use Rattle.text_fields.specs.Text.{number_of}
 use Rattle.text_fields.proofs.Runs.{its_end_most, its_field}
 use Rattle.text_fields.proofs.number_at.Goals as goal
@@ -13,5 +11,4 @@ pub returns : goal.returns
 returns c =
     let ended = c in
     let args = ended.args in
-    c.number_of.ensures
-    ∙ ap (λ (s : List ℕ). number_of args.hex args.least args.most s) (its_field args.k args.line.now ended.field_start-from.ensures ended.field_end-to.ensures)
+    c.number_of.ensures ∙ ap (number_of args.form) (its_field args.k args.line.now ended.field_start-from.ensures ended.field_end-to.ensures)

@@ -1,81 +1,69 @@
--- `card_text::lines::read_lines` meets its contract. The loop's invariant: the lines left, read on, give what all lines give.
-use mathlib.Core.Path.{◌≡◌, refl, sym, ap, ◌∙◌}
+-- `card_text::lines::read_lines` meets its contract.
+use mathlib.Core.Path.{◌≡◌, sym, ap, ◌∙◌}
 use mathlib.Core.List.{List}
-use Prim.Native.Nat.{ℕ}
+use Prim.Native.Nat.{ℕ, ◌+◌, ◌<◌, ◌≤◌}
+use Rattle.std.specs.Prelude.{Result, Ok}
+use Rattle.card_grammar.specs.declared.Reason.{Reason}
+use Rattle.card_grammar.specs.declared.Named.{Named}
 use native.Mathlib.Omega.{arith}
 use lib.ListN.{length, drop}
-use borrow.Author.Rules.{rules}
+use borrow.Author.Tests.{le-ltb, lt-ltb}
 use Rattle.text_fields.specs.Text.{part, in_line, lines_of, run_end}
-use Rattle.card_grammar.specs.Grammar.{enter_line, read_lines}
 use Rattle.text_fields.proofs.Runs.{run_end_most}
-use Rattle.card_text.proofs.FirstLine.{next_line, lines_at, next_more, next_most, read_fine, read_refused, read_all}
+use Rattle.card_grammar.specs.Grammar.{entered, enter_line, read_lines}
+use Rattle.card_text.proofs.FirstLine.{next_line, lines_at, line_entered, line_refused, lines_end}
 use Rattle.card_text.proofs.lines.read_lines.Goals as goal
 
--- where the next line starts
-next_is : (end len n at : ℕ) (text : List ℕ) → n ≡ next_line end len → end ≡ run_end in_line at text → len ≡ length text → n ≡ next_line (run_end in_line at text) (length text)
-next_is end len n at text e f g = e ∙ ap (λ (k : ℕ). next_line k len) f ∙ ap (λ (k : ℕ). next_line (run_end in_line at text) k) g
-
-pub loop-at-init : goal.loop-at-init
-loop-at-init c = (omega arith, omega arith, refl, refl)
-
-pub slice_bounds-enter_line-count : goal.slice_bounds-enter_line-count
-slice_bounds-enter_line-count c = omega (arith, c.line_end-end.ensures)
+-- a line that is entered: the rest is read on
+on : (end at : ℕ) (text : List ℕ) (count : ℕ) → at < length text → end ≡ run_end in_line at text → (named : Named) (after : Named) {r : Result (Unit {0}) Reason} {u : Unit {0}}
+    → entered r after ≡ enter_line (part at end text) named → r ≡ Ok u
+    → read_lines (count + 1) (lines_of (drop (next_line (run_end in_line at text) (length text)) text)) after ≡ read_lines count (lines_of (drop at text)) named
+on end at text count h is named after e f =
+    sym
+    (ap (λ (ls : List (List ℕ)). read_lines count ls named) (lines_at text at h)
+    ∙ line_entered count (part at (run_end in_line at text) text) _ named after (e ∙ ap (λ (k : ℕ). enter_line (part at k text) named) is) f)
 
 pub slice_bounds-enter_line-end : goal.slice_bounds-enter_line-end
 slice_bounds-enter_line-end c = omega (arith, c.line_end-end.ensures, run_end_most in_line c.loop-at.at c.args.text.now (omega arith))
 
-pub loop-at-smaller : goal.loop-at-smaller
-loop-at-smaller c =
-    let ended = c in
-    let reached = ended in
-    let text : List ℕ = reached.args.text.now in
-    let at : ℕ = reached.loop-at.at in
-    let next : c.next_line-at.result ≡ next_line (run_end in_line at text) (length text) =
-    next_is ended.line_end-end.result (length text) c.next_line-at.result at text c.next_line-at.ensures ended.line_end-end.ensures refl in
-    omega (arith, next_more text at (omega arith), next_most text at (omega arith))
+pub returns-in-Err : goal.returns-in-Err
+returns-in-Err c =
+    let text : List ℕ = c.args.text.now in
+    let l = c.loop-at in
+    let end : ℕ = run_end in_line l.at text in
+    sym
+    (ap (λ (ls : List (List ℕ)). read_lines l.count ls l.named) (lines_at text l.at c.loop-at-test.true)
+    ∙ line_refused l.count (part l.at end text) (lines_of (drop (next_line end (length text)) text)) l.named c.enter_line.new.named
+    (c.enter_line.ensures ∙ ap (λ (k : ℕ). enter_line (part l.at k text) l.named) c.line_end-end.ensures)
+    c.in-Err.is)
+    ∙ l.invariant.rest
+
+pub loop-at-preserved-then-end-text : goal.loop-at-preserved-then-end-text
+loop-at-preserved-then-end-text c =
+    let text : List ℕ = c.args.text.now in
+    let l = c.loop-at in
+    let end : ℕ = run_end in_line l.at text in
+    let more : end < length text = omega (arith, c.line_end-end.ensures) in
+    let next : next_line end (length text) ≡ c.line_end-end.result + 1 = simp (lt-ltb end (length text) more) (omega (arith, c.line_end-end.ensures)) in
+    record {
+      within = omega arith;
+      short = omega (arith, c.line_end-end.ensures);
+      rest = rw (← next) (on c.line_end-end.result l.at text l.count c.loop-at-test.true c.line_end-end.ensures l.named c.enter_line.new.named c.enter_line.ensures c.in_default.is ∙ l.invariant.rest);
+    }
 
 pub loop-at-preserved : goal.loop-at-preserved
 loop-at-preserved c =
-    let fined = c in
-    let called = fined in
-    let ended = called in
-    let reached = ended in
-    let text : List ℕ = reached.args.text.now in
-    let at : ℕ = reached.loop-at.at in
-    let table : List ℕ = reached.loop-at.table in
-    let rest : ℕ = next_line (run_end in_line at text) (length text) in
-    let next : c.next_line-at.result ≡ rest =
-    next_is ended.line_end-end.result (length text) c.next_line-at.result at text c.next_line-at.ensures ended.line_end-end.ensures refl in (
-      omega (arith, next_most text at (omega arith)),
-      omega (arith, next_more text at (omega arith)),
-      search rules,
-      rw next
-          (sym
-          (read_fine reached.loop-at.count (part at (run_end in_line at text) text) (lines_of (drop rest text)) table
-          (called.enter_line-why.ensures ∙ ap (λ (k : ℕ). enter_line (part at k text) table) ended.line_end-end.ensures)
-          (sym fined.fine.ensures ∙ c.if-fine.true))
-          ∙ sym (ap (λ (ls : List (List ℕ)). read_lines reached.loop-at.count ls table) (lines_at text at (omega arith)))
-          ∙ reached.loop-at.invariant.3),
-    )
-
-pub returns-else-fine : goal.returns-else-fine
-returns-else-fine c =
-    let fined = c in
-    let called = fined in
-    let ended = called in
-    let reached = ended in
-    let text : List ℕ = reached.args.text.now in
-    let at : ℕ = reached.loop-at.at in
-    let table : List ℕ = reached.loop-at.table in
-    let rest : ℕ = next_line (run_end in_line at text) (length text) in
-    sym
-    (read_refused reached.loop-at.count (part at (run_end in_line at text) text) (lines_of (drop rest text)) table
-    (called.enter_line-why.ensures ∙ ap (λ (k : ℕ). enter_line (part at k text) table) ended.line_end-end.ensures)
-    (sym fined.fine.ensures ∙ c.if-fine.false))
-    ∙ sym (ap (λ (ls : List (List ℕ)). read_lines reached.loop-at.count ls table) (lines_at text at (omega arith)))
-    ∙ reached.loop-at.invariant.3
+    let text : List ℕ = c.args.text.now in
+    let l = c.loop-at in
+    let end : ℕ = run_end in_line l.at text in
+    let all : length text ≤ end = omega (arith, c.line_end-end.ensures) in
+    let most : end ≤ length text = run_end_most in_line l.at text (omega arith) in
+    let next : next_line end (length text) ≡ c.line_end-end.result = simp (le-ltb end (length text) all) (omega (arith, c.line_end-end.ensures)) in
+    record {
+      within = omega (arith, c.line_end-end.ensures);
+      short = omega (arith, c.line_end-end.ensures);
+      rest = rw (← next) (on c.line_end-end.result l.at text l.count c.loop-at-test.true c.line_end-end.ensures l.named c.enter_line.new.named c.enter_line.ensures c.in_default.is ∙ l.invariant.rest);
+    }
 
 pub returns : goal.returns
-returns c =
-    let l = c.loop-at in
-    sym (read_all l.count c.args.text.now l.table l.at c.loop-at-test.false) ∙ l.invariant.3
+returns c = sym (lines_end c.loop-at.count c.args.text.now c.loop-at.named c.loop-at.at c.loop-at-test.false) ∙ c.loop-at.invariant.rest

@@ -7,11 +7,11 @@ use Rattle.card_grammar.specs.Grammar.{read_lines}
 use Rattle.card_text.proofs.lines.read_lines.Given as goal
 
 abbrev pub invariant-loop-at : goal.invariant-loop-at
-invariant-loop-at l =
-    (l.at ≤ length l.text)
-    × (l.count ≤ l.at)
-    × (length l.table ≡ length l.initial.table)
-    × (read_lines l.count (lines_of (drop l.at l.text)) l.table ≡ read_lines 0 (lines_of l.text) l.initial.table)
+invariant-loop-at l = record {
+  within : l.at ≤ length l.text;
+  short : l.count ≤ l.at;
+  rest : read_lines l.count (lines_of (drop l.at l.text)) l.named ≡ read_lines 0 (lines_of l.text) l.initial.named;
+}
 
 abbrev pub decreases-loop-at : goal.decreases-loop-at
 decreases-loop-at l = length l.text - l.at

@@ -1,8 +1,8 @@
 -- `describe_capture::fault_words::put_record_cut_line` meets its contract.
-use Rattle.capture_lines.specs.Faults.{record_cut_line}
 use Rattle.text_line.proofs.Putting.{then}
+use Rattle.capture_lines.specs.Faults.{record_cut_line}
 use Rattle.describe_capture.proofs.fault_words.put_record_cut_line.Goals as goal
 
 pub returns : goal.returns
 unfolding record_cut_line
-returns c = then (then (then (then (then c.put_place-a.ensures c.put_text-b.ensures) c.put_hex2-c.ensures) c.put_named-d.ensures) c.put_named-e.ensures) c.put_text.ensures
+returns c = then _ _ _ (then _ _ _ (then _ _ _ (then _ _ _ (then _ _ _ c.put_place.ensures c.put_text.ensures) c.put_hex.ensures) c.put_named.ensures) c.put_named-2.ensures) c.put_text-2.ensures

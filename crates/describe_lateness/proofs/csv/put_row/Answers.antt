@@ -5,4 +5,4 @@ use Rattle.describe_lateness.proofs.csv.put_row.Goals as goal
 
 pub returns : goal.returns
 unfolding row_csv
-returns c = simp c.difference.ensures at (then (then (then (then (then c.put_text-a.ensures c.put_text-b.ensures) c.put_decimal-c.ensures) c.put_text-d.ensures) c.put_times-e.ensures) c.put_end.ensures)
+returns c = simp c.difference.ensures at (then _ _ _ (then _ _ _ (then _ _ _ (then _ _ _ (then _ _ _ c.put_text.ensures c.put_text-2.ensures) c.put_decimal.ensures) c.put_text-3.ensures) c.put_times.ensures) c.put_end.ensures)

@@ -6,4 +6,4 @@ use Rattle.describe_lateness.proofs.signed.put_difference.Goals as goal
 
 pub returns : goal.returns
 unfolding difference_text
-returns c = simp (c.size_of.ensures, read c.args.d c.ranges.d) at (then c.put_sign-next.ensures c.put_nanos.ensures)
+returns c = simp (c.size_of.ensures, read c.args.d c.ranges.d) at (then _ _ _ c.put_sign.ensures c.put_nanos.ensures)

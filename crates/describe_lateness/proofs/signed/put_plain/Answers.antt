@@ -6,4 +6,4 @@ use Rattle.describe_lateness.proofs.signed.put_plain.Goals as goal
 
 pub returns : goal.returns
 unfolding plain_text
-returns c = simp (c.size_of.ensures, c.is_early.ensures, read c.args.d c.ranges.d) at (then c.put_if-next.ensures c.put_decimal.ensures)
+returns c = simp (c.size_of.ensures, c.is_early.ensures, read c.args.d c.ranges.d) at (then _ _ _ c.put_if.ensures c.put_decimal.ensures)

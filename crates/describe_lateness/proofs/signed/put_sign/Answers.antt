@@ -6,4 +6,4 @@ use Rattle.describe_lateness.proofs.signed.put_sign.Goals as goal
 
 pub returns : goal.returns
 unfolding sign_text
-returns c = simp (c.is_late.ensures, c.is_early.ensures, read c.args.d c.ranges.d) at (then c.put_if-next.ensures c.put_if.ensures)
+returns c = simp (c.is_late.ensures, c.is_early.ensures, read c.args.d c.ranges.d) at (then _ _ _ c.put_if.ensures c.put_if-2.ensures)

@@ -5,4 +5,4 @@ use Rattle.describe_lateness.proofs.totals.put_counts.Goals as goal
 
 pub returns : goal.returns
 unfolding counts_text
-returns c = simp (c.u64_of_u32-3.ensures.value, c.u64_of_u32-2.ensures.value, c.u64_of_u32.ensures.value) at (then (then (then (then (then c.put_text-a.ensures c.put_grouped-b.ensures) c.put_text-c.ensures) c.put_grouped-d.ensures) c.put_text-e.ensures) c.put_grouped.ensures)
+returns c = simp (c.u64_of_u32-3.ensures.value, c.u64_of_u32-2.ensures.value, c.u64_of_u32.ensures.value) at (then _ _ _ (then _ _ _ (then _ _ _ (then _ _ _ (then _ _ _ c.put_text.ensures c.put_grouped.ensures) c.put_text-2.ensures) c.put_grouped-2.ensures) c.put_text-3.ensures) c.put_grouped-3.ensures)

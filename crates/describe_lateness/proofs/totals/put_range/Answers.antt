@@ -6,4 +6,4 @@ use Rattle.describe_lateness.proofs.totals.put_range.Goals as goal
 
 pub returns : goal.returns
 unfolding range_text
-returns c = simp (read c.args.least c.ranges.least, read c.args.greatest c.ranges.greatest, read c.args.sum c.ranges.sum) at (then (then (then (then (then c.put_text-a.ensures c.put_difference-b.ensures) c.put_text-c.ensures) c.put_difference-d.ensures) c.put_text-e.ensures) c.put_difference.ensures)
+returns c = simp (read c.args.least c.ranges.least, read c.args.greatest c.ranges.greatest, read c.args.sum c.ranges.sum) at (then _ _ _ (then _ _ _ (then _ _ _ (then _ _ _ (then _ _ _ c.put_text.ensures c.put_difference.ensures) c.put_text-2.ensures) c.put_difference-2.ensures) c.put_text-3.ensures) c.put_difference-3.ensures)

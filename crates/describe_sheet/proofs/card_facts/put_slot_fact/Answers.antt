@@ -5,4 +5,4 @@ use Rattle.describe_sheet.proofs.card_facts.put_slot_fact.Goals as goal
 
 pub returns : goal.returns
 unfolding slot_fact
-returns c = then (then (then (then (then c.put_named-a.ensures c.put_code-b.ensures) c.put_code-c.ensures) c.put_code-d.ensures) c.put_code-e.ensures) c.put_either.ensures
+returns c = then _ _ _ (then _ _ _ (then _ _ _ (then _ _ _ (then _ _ _ c.put_named.ensures c.put_code.ensures) c.put_code-2.ensures) c.put_code-3.ensures) c.put_code-4.ensures) c.put_either.ensures

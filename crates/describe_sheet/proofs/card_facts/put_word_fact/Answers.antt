@@ -5,4 +5,4 @@ use Rattle.describe_sheet.proofs.card_facts.put_word_fact.Goals as goal
 
 pub returns : goal.returns
 unfolding word_fact
-returns c = then (then (then (then c.put_named-a.ensures c.put_text-b.ensures) c.put_hex2-c.ensures) c.put_text-d.ensures) c.put_hex8.ensures
+returns c = then _ _ _ (then _ _ _ (then _ _ _ (then _ _ _ c.put_named.ensures c.put_text.ensures) c.put_hex.ensures) c.put_text-2.ensures) c.put_hex-2.ensures

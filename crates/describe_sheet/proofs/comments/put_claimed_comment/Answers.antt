@@ -5,4 +5,4 @@ use Rattle.describe_sheet.proofs.comments.put_claimed_comment.Goals as goal
 
 pub returns : goal.returns
 unfolding claimed_comment
-returns c = then (then (then (then c.put_text-a.ensures c.put_slot_time-b.ensures) c.put_claim-c.ensures) c.put_text-d.ensures) c.put_same_in_nanos.ensures
+returns c = then _ _ _ (then _ _ _ (then _ _ _ (then _ _ _ c.put_text.ensures c.put_slot_time.ensures) c.put_claim.ensures) c.put_text-2.ensures) c.put_same_in_nanos.ensures

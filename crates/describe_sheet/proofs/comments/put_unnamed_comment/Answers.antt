@@ -5,4 +5,4 @@ use Rattle.describe_sheet.proofs.comments.put_unnamed_comment.Goals as goal
 
 pub returns : goal.returns
 unfolding unnamed_comment
-returns c = then c.put_named-next.ensures c.put_text.ensures
+returns c = then _ _ _ c.put_named.ensures c.put_text.ensures

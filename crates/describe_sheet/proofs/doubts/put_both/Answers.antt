@@ -5,4 +5,4 @@ use Rattle.describe_sheet.proofs.doubts.put_both.Goals as goal
 
 pub returns : goal.returns
 unfolding both_text
-returns c = simp (c.in_nanos.ensures, c.in_nanos-2.ensures) at (then (then (then (then (then c.put_slot_time-a.ensures c.put_claim-b.ensures) c.put_text-c.ensures) c.put_time-d.ensures) c.put_text-e.ensures) c.put_time.ensures)
+returns c = simp (c.in_nanos.ensures, c.in_nanos-2.ensures) at (then _ _ _ (then _ _ _ (then _ _ _ (then _ _ _ (then _ _ _ c.put_slot_time.ensures c.put_claim.ensures) c.put_text.ensures) c.put_time.ensures) c.put_text-2.ensures) c.put_time-2.ensures)

@@ -6,8 +6,12 @@ use Rattle.describe_sheet.proofs.refusals.put_layout.Goals as goal
 
 pub returns-then-field-lt5 : goal.returns-then-field-lt5
 unfolding layout_text
-returns-then-field-lt5 c = simp (lt-ltb _ _ c.if-field-lt5.true) (simp c.column_at.ensures at (then (then c.put_named-next.ensures c.put_text-a.ensures) c.put_field_name.ensures))
+returns-then-field-lt5 c =
+    simp (lt-ltb _ _ c.if-field-lt5.true)
+    (simp c.column_at.ensures at (then _ _ _ (then _ _ _ c.put_named.ensures c.put_text.ensures) c.put_field_name.ensures))
 
-pub returns : goal.returns
+pub returns-else-field-lt5 : goal.returns-else-field-lt5
 unfolding layout_text
-returns c = simp (le-ltb _ _ c.if-field-lt5.false) (simp c.column_at.ensures at (then c.put_named-next.ensures c.put_text.ensures))
+returns-else-field-lt5 c =
+    simp (le-ltb _ _ c.if-field-lt5.false)
+    (simp c.column_at.ensures at (then _ _ _ c.put_named.ensures c.put_text-else-field-lt5.ensures))

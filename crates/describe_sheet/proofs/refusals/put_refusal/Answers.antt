@@ -5,4 +5,4 @@ use Rattle.describe_sheet.proofs.refusals.put_refusal.Goals as goal
 
 pub returns : goal.returns
 unfolding refusal_text
-returns c = then (then c.put_named-a.ensures c.put_text-b.ensures) c.put_reason.ensures
+returns c = then _ _ _ (then _ _ _ c.put_named.ensures c.put_text.ensures) c.put_reason.ensures

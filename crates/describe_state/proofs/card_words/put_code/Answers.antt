@@ -5,4 +5,4 @@ use Rattle.describe_state.proofs.card_words.put_code.Goals as goal
 
 pub returns : goal.returns
 unfolding code_text
-returns c = simp (c.code_number.ensures, c.in_nanos.ensures, c.allowed.ensures) at (then (then (then (then c.put_text-a.ensures c.put_hex3-b.ensures) c.put_text-c.ensures) c.put_time-d.ensures) c.put_if.ensures)
+returns c = simp (c.code_number.ensures, c.in_nanos.ensures, c.allowed.ensures) at (then _ _ _ (then _ _ _ (then _ _ _ (then _ _ _ c.put_text.ensures c.put_hex.ensures) c.put_text-2.ensures) c.put_time.ensures) c.put_if.ensures)

@@ -1,8 +1,8 @@
 -- `describe_trace::trace_words::put_incomplete` meets its contract.
-use Rattle.describe_trace.specs.Traces.{incomplete_text}
 use Rattle.text_line.proofs.Putting.{then}
+use Rattle.describe_trace.specs.Traces.{incomplete_text}
 use Rattle.describe_trace.proofs.trace_words.put_incomplete.Goals as goal
 
 pub returns : goal.returns
 unfolding incomplete_text
-returns c = then (then (then (then (then c.put_column-a.ensures c.put_text-b.ensures) c.put_hex2-c.ensures) c.put_named-d.ensures) c.put_named-e.ensures) c.put_text.ensures
+returns c = then _ _ _ (then _ _ _ (then _ _ _ (then _ _ _ (then _ _ _ c.put_column.ensures c.put_text.ensures) c.put_hex.ensures) c.put_named.ensures) c.put_named-2.ensures) c.put_text-2.ensures

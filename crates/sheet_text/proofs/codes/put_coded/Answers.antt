@@ -5,4 +5,7 @@ use Rattle.sheet_text.proofs.codes.put_coded.Goals as goal
 
 pub returns : goal.returns
 unfolding lines_of_code
-returns c = then (then (then c.put_claimed-d.ensures c.put_byte-e.ensures) (then c.put_given-f.ensures c.put_byte-g.ensures)) c.put_lower_line.ensures
+returns c =
+    then _ _ _
+    (then _ _ _ (then _ _ _ c.put_claimed.ensures c.put_byte.ensures) (then _ _ _ c.put_given.ensures c.put_byte-2.ensures))
+    c.put_lower_line.ensures

@@ -11,6 +11,6 @@ pub returns-then-n-lt16 : goal.returns-then-n-lt16
 unfolding glyph_of
 returns-then-n-lt16 c = simp (le-ltb _ _ c.if-n-lt10.false, lt-ltb _ _ c.if-n-lt16.true)
 
-pub returns : goal.returns
+pub returns-else-n-lt16 : goal.returns-else-n-lt16
 unfolding glyph_of
-returns c = simp (le-ltb _ _ c.if-n-lt10.false, le-ltb _ _ c.if-n-lt16.false)
+returns-else-n-lt16 c = simp (le-ltb _ _ c.if-n-lt10.false, le-ltb _ _ c.if-n-lt16.false)

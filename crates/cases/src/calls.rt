@@ -1,75 +1,40 @@
 // What a call of feed or of replay reads, and what it writes.
-use crate::input::fill;
-use crate::output::{write_first, write_words};
-use crate::turn::{Turn, with_port};
-use bits::{u64_of_usize, usize_of_u16};
-use readiness::Status;
-use records::Port;
-use state_image::numbers::{put, put_four, two_at};
+use crate::input::{BadCase, fill, fill_first, two};
+use crate::output::{write_bytes, write_first, write_words};
+use crate::state::State;
+use state_image::numbers::put_four;
 use state_image::state::{image_size, state_bytes};
 
-// A call's room and input length, and whether they and the input are there.
+// A call's room for answers and its input, at most 4,096 bytes each.
 #[derive(Clone, Copy)]
-pub struct Call {
-    pub good: bool,
+pub struct Call<'a> {
     pub room: usize,
-    pub n: usize,
+    pub input: &'a [u8],
 }
 
-// Room and input length, at most 4,096 each, and the input.
-pub fn read_call(rt: &HostRuntime, input: &mut [u8]) -> Call {
+pub fn read_call<'a>(rt: &HostRuntime, input: &'a mut [u8; 4096]) -> Result<Call<'a>, BadCase> {
     let mut head = [0u8; 4];
-    let whole = fill(rt, &mut head, 4);
-    let room = usize_of_u16(two_at(&head, 0));
-    let n = usize_of_u16(two_at(&head, 2));
-    Call {
-        good: whole & (room <= 4096) & fill(rt, input, n),
-        room: room,
-        n: n,
+    fill(rt, &mut head)?;
+    let room = two(head[0], head[1]);
+    if room > 4096 {
+        return Err(BadCase);
     }
+    let input = fill_first(rt, input, two(head[2], head[3]))?;
+    Ok(Call { room, input })
 }
 
-// The number and the two counts, then the whole room.
-pub fn write_answers(
-    rt: &HostRuntime,
-    number: u8,
-    consumed: usize,
-    written: usize,
-    answers: &[u8],
-    room: usize,
-) {
-    let mut bytes = [0u8; 9];
-    put(&mut bytes, 0, number);
-    put_four(&mut bytes, 1, u64_of_usize(consumed));
-    put_four(&mut bytes, 5, u64_of_usize(written));
-    write_first(rt, &bytes, 9);
-    write_first(rt, answers, room);
+// The number and the two counts.
+pub fn write_counts(rt: &HostRuntime, number: u8, consumed: usize, written: usize) {
+    let mut counts = [number; 9];
+    put_four(&mut counts, 1, consumed as u64);
+    put_four(&mut counts, 5, written as u64);
+    write_bytes(rt, &counts);
 }
 
-fn write_state(
-    rt: &HostRuntime,
-    lent: usize,
-    port: Port,
-    statuses: [Status; 32],
-    live: &[u32],
-    cells: &[u32],
-) {
-    let image = state_bytes(port, statuses);
-    write_first(rt, &image, image_size(lent));
-    write_words(rt, live);
-    write_words(rt, cells);
-}
-
-// After a call: the state is written.
-pub fn after_call(
-    rt: &HostRuntime,
-    lent: usize,
-    turn: Turn,
-    port: Port,
-    statuses: [Status; 32],
-    live: &[u32],
-    cells: &[u32],
-) -> Turn {
-    write_state(rt, lent, port, statuses, live, cells);
-    with_port(turn, port, statuses)
+// After a call: the port and the statuses, the live words and the queue cells.
+pub fn write_state(rt: &HostRuntime, state: &State<'_>) {
+    let image = state_bytes(state.port, state.statuses);
+    write_first(rt, &image, image_size(state.lent));
+    write_words(rt, state.live);
+    write_words(rt, state.cells);
 }

@@ -1,77 +1,44 @@
 // Bytes and words from standard input.
-ghost use Rattle.std.specs.Prelude.{◌≤◌, length};
+ghost use Rattle.std.specs.Prelude.{◌<◌};
 
-use bits::byte_at;
 use state_image::numbers::words_from;
 use std::io::Read;
 
+// A malformed stream: it ends where that is seen.
 #[derive(Clone, Copy)]
-pub enum Byte {
-    End,
-    Is(u8),
-}
+pub struct BadCase;
 
-// Reads more; how many bytes, and 0 at the end of the input or where reading fails.
-fn read_some(rt: &HostRuntime, bytes: &mut [u8]) -> usize
-    ensures { result ≤ length bytes.old }
-{
+// Fills all bytes, which have to be there.
+pub fn fill(rt: &HostRuntime, bytes: &mut [u8]) -> Result<(), BadCase> {
     let mut from = rt.stdin();
-    match from.read(bytes) {
-        Ok(n) => n,
-        Err(_) => 0,
-    }
+    from.read_exact(bytes).map_err(|_| BadCase)
 }
 
-// Fills all bytes; false where the input ends before, or reading fails.
-fn read_full(rt: &HostRuntime, bytes: &mut [u8]) -> bool {
-    let mut done: usize = 0;
-    while done < bytes.len() {
-        let n = read_some(rt, &mut bytes[done..]);
-        if n == 0 {
-            return false;
-        }
-        done += n;
-    }
-    true
-}
-
-// Fills the first n bytes; false where there are fewer, and where the input ends before.
-pub fn fill(rt: &HostRuntime, bytes: &mut [u8], n: usize) -> bool {
-    if n == 0 {
-        return true;
-    }
-    if n <= bytes.len() {
-        return read_full(rt, &mut bytes[0..n]);
-    }
-    false
+// Fills the first n bytes of a room that has as many, and gives them.
+pub fn fill_first<'a>(rt: &HostRuntime, room: &'a mut [u8], n: usize) -> Result<&'a [u8], BadCase> {
+    let first = room.get_mut(..n).ok_or(BadCase)?;
+    fill(rt, &mut *first)?;
+    Ok(first)
 }
 
 // The next byte, or the end of the input.
-pub fn next_byte(rt: &HostRuntime) -> Byte {
+pub fn next_byte(rt: &HostRuntime) -> Option<u8> {
     let mut one = [0u8; 1];
-    if fill(rt, &mut one, 1) {
-        Byte::Is(byte_at(&one, 0))
-    } else {
-        Byte::End
-    }
+    fill(rt, &mut one).ok()?;
+    Some(one[0])
 }
 
-// The next byte where one must stand, and 255 at the end of the input: no operation has that number, and no message that length.
-pub fn byte_or_255(rt: &HostRuntime) -> u8 {
-    let next = next_byte(rt);
-    match next {
-        Byte::End => 255,
-        Byte::Is(b) => b,
-    }
+// Two bytes, low byte first.
+pub fn two(low: u8, high: u8) -> usize
+    ensures { result < 65536 }
+{
+    usize::from(u16::from_le_bytes([low, high]))
 }
 
-// Reads words, at most 4,200; false where there are more, and where the input ends before.
-pub fn read_words(rt: &HostRuntime, words: &mut [u32]) -> bool {
-    let mut bytes = [0u8; 16800];
-    let n = 4 * words.len();
-    if fill(rt, &mut bytes, n) {
-        words_from(&bytes, words);
-        return true;
-    }
-    false
+// Reads words, at most 4,200.
+pub fn read_words(rt: &HostRuntime, words: &mut [u32]) -> Result<(), BadCase> {
+    let mut room = [0u8; 16800];
+    let bytes = fill_first(rt, &mut room, 4 * words.len())?;
+    words_from(bytes, words);
+    Ok(())
 }

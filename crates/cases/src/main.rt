@@ -6,8 +6,7 @@
 mod input; // bytes and words from standard input
 mod output; // bytes and words to standard output
 mod front; // what a case lends: lengths and the set-up
-mod turn; // what goes from one operation to the next
-mod bench_calls; // the three calls that the cases drive
+mod state; // what goes from one operation to the next
 mod calls; // what a call of feed or of replay reads and writes
 mod operations; // set-up, feed, and lending a state
 mod replay_operations; // replay, and lending the state of one
@@ -16,65 +15,31 @@ mod sheet_operation; // a time sheet
 mod message_operations; // a message written, and one read
 mod running; // one case
 
-use input::{Byte, next_byte};
+use input::{BadCase, next_byte};
 use running::run_case;
 
 const VERSION: u8 = 2;
 
-// After a case, or at the end of the stream: whether the stream goes on, and whether all was good.
-#[derive(Clone, Copy)]
-pub struct Progress {
-    pub goes_on: bool,
-    pub good: bool,
-}
-
-fn next_case(rt: &HostRuntime) -> Progress {
-    let first = next_byte(rt);
-    match first {
-        Byte::End => Progress {
-            goes_on: false,
-            good: true,
-        },
-        Byte::Is(slots) => {
-            let good = run_case(rt, slots);
-            Progress {
-                goes_on: good,
-                good: good,
-            }
+// A proved loop has to end, and nothing says that a stream does: the range is longer than any run.
+fn run_cases(rt: &HostRuntime) -> Result<(), BadCase> {
+    for _ in 0..u64::MAX {
+        match next_byte(rt) {
+            Some(slots) => run_case(rt, slots)?,
+            None => break,
         }
     }
+    Ok(())
 }
 
-// A proved loop has to end, and nothing says that a stream does: it counts its turns down from a number that no run uses up.
-fn run_cases(rt: &HostRuntime) -> bool {
-    let mut turns = u64::MAX;
-    let mut goes_on = true;
-    let mut good = true;
-    while turns > 0 && goes_on {
-        let p = next_case(rt);
-        goes_on = p.goes_on;
-        good = p.good;
-        turns -= 1;
-    }
-    good
-}
-
-fn run_stream(rt: &HostRuntime) -> bool {
-    let first = next_byte(rt);
-    match first {
-        Byte::End => false,
-        Byte::Is(version) => {
-            if version == VERSION {
-                run_cases(rt)
-            } else {
-                false
-            }
-        }
+fn run_stream(rt: &HostRuntime) -> Result<(), BadCase> {
+    match next_byte(rt) {
+        Some(VERSION) => run_cases(rt),
+        _ => Err(BadCase),
     }
 }
 
 fn main(rt: HostRuntime) {
-    if !run_stream(&rt) {
+    if run_stream(&rt).is_err() {
         let _ = Print::write_all(&rt.stderr(), b"bad case\n");
     }
 }

@@ -1,112 +1,77 @@
 // The operations on a replay, and what each writes.
-use crate::bench_calls::replay_lent;
-use crate::calls::{Call, after_call, read_call, write_answers};
-use crate::input::fill;
-use crate::output::write_first;
-use crate::turn::{Turn, ended, with_replay};
-use bits::at_most;
-use capture::Replay;
-use readiness::Moments;
-use replay::Replayed;
+use crate::calls::{read_call, write_counts, write_state};
+use crate::input::{BadCase, fill};
+use crate::output::write_bytes;
+use crate::state::State;
+use replay::{Replayed, replay};
 use replay_image::moments::{MOMENTS_IMAGE, are_good_moments, moments_in, put_moments};
 use replay_image::{REPLAY_IMAGE, is_good_image, put_replay, replay_in};
 
-// Replays the first n bytes of the input with so much room for answers.
-fn replay_first(
-    lent: usize,
-    turn: Turn,
-    live: &mut [u32],
-    defaults: &[u32],
-    cells: &mut [u32],
-    input: &[u8],
-    answers: &mut [u8],
-    call: Call,
-) -> Replayed {
-    let n = at_most(call.n, input.len());
-    let room = at_most(call.room, answers.len());
-    replay_lent(
-        lent,
-        turn,
-        live,
-        defaults,
-        cells,
-        &input[0..n],
-        &mut answers[0..room],
-    )
-}
-
-fn write_replay(rt: &HostRuntime, replay: Replay, moments: Moments) {
+fn write_replay(rt: &HostRuntime, state: &State<'_>) {
     let mut image = [0u8; REPLAY_IMAGE];
     let mut kept = [0u8; MOMENTS_IMAGE];
-    put_replay(&mut image, replay);
-    put_moments(&mut kept, moments);
-    write_first(rt, &image, REPLAY_IMAGE);
-    write_first(rt, &kept, MOMENTS_IMAGE);
+    put_replay(&mut image, state.replay);
+    put_moments(&mut kept, state.moments);
+    write_bytes(rt, &image);
+    write_bytes(rt, &kept);
 }
 
-// After a replay: the state is written, then that of the replay.
-fn after_replay(
-    rt: &HostRuntime,
-    lent: usize,
-    turn: Turn,
-    replayed: Replayed,
-    live: &[u32],
-    cells: &[u32],
-) -> Turn {
-    let port = replayed.port;
-    let statuses = replayed.statuses;
-    let replay = replayed.replay;
-    let moments = replayed.moments;
-    let next = after_call(rt, lent, turn, port, statuses, live, cells);
-    write_replay(rt, replay, moments);
-    with_replay(next, replay, moments)
+// A call of replay, and what it writes.
+fn replay_into(rt: &HostRuntime, state: &mut State<'_>, input: &[u8], room: &mut [u8]) {
+    let replayed = replay(
+        state.setup,
+        state.port,
+        state.statuses,
+        state.lent,
+        state.replay,
+        state.moments,
+        &mut *state.live,
+        state.defaults,
+        &mut *state.cells,
+        input,
+        &mut *room,
+    );
+    write_counts(rt, replayed.number, replayed.consumed, replayed.written);
+    write_bytes(rt, room);
+    take_replayed(state, replayed);
+    write_state(rt, state);
+    write_replay(rt, state);
 }
 
 // 06: every answer byte is EEh before the call.
-pub fn replay_operation(
-    rt: &HostRuntime,
-    lent: usize,
-    turn: Turn,
-    live: &mut [u32],
-    defaults: &[u32],
-    cells: &mut [u32],
-) -> Turn {
+pub fn replay_operation(rt: &HostRuntime, state: &mut State<'_>) -> Result<(), BadCase> {
     let mut input = [0u8; 4096];
     let mut answers = [0xEEu8; 4096];
-    let call = read_call(rt, &mut input);
-    if !call.good {
-        return ended(turn, false);
-    }
-    let replayed = replay_first(
-        lent,
-        turn,
-        &mut *live,
-        defaults,
-        &mut *cells,
-        &input,
-        &mut answers,
-        call,
-    );
-    write_answers(
-        rt,
-        replayed.number,
-        replayed.consumed,
-        replayed.written,
-        &answers,
-        call.room,
-    );
-    after_replay(rt, lent, turn, replayed, live, cells)
+    let call = read_call(rt, &mut input)?;
+    let room = call.room.min(4096);
+    replay_into(rt, state, call.input, &mut answers[..room]);
+    Ok(())
+}
+
+fn take_replayed(state: &mut State<'_>, replayed: Replayed) {
+    let Replayed {
+        port,
+        statuses,
+        replay,
+        moments,
+        ..
+    } = replayed;
+    state.port = port;
+    state.statuses = statuses;
+    state.replay = replay;
+    state.moments = moments;
 }
 
 // 07: a state of a replay replaces this one.
-pub fn lend_replay_operation(rt: &HostRuntime, turn: Turn) -> Turn {
+pub fn lend_replay_operation(rt: &HostRuntime, state: &mut State<'_>) -> Result<(), BadCase> {
     let mut image = [0u8; REPLAY_IMAGE];
     let mut kept = [0u8; MOMENTS_IMAGE];
-    if !fill(rt, &mut image, REPLAY_IMAGE) | !fill(rt, &mut kept, MOMENTS_IMAGE) {
-        return ended(turn, false);
+    fill(rt, &mut image)?;
+    fill(rt, &mut kept)?;
+    if !is_good_image(&image) || !are_good_moments(&kept) {
+        return Err(BadCase);
     }
-    if !is_good_image(&image) | !are_good_moments(&kept) {
-        return ended(turn, false);
-    }
-    with_replay(turn, replay_in(&image), moments_in(&kept))
+    state.replay = replay_in(&image);
+    state.moments = moments_in(&kept);
+    Ok(())
 }

@@ -4,33 +4,23 @@ ghost use Rattle.std.specs.Prelude.{◌≤◌, length};
 use std::env::FillError;
 use std::rt::Env;
 
-// Puts argument i at the start of the room, and gives how many bytes it has: 0 where there is no such argument, or it is longer than
-// the room.
-pub fn arg(rt: &HostRuntime, i: usize, room: &mut [u8]) -> usize
-    ensures { result ≤ length room.new }
+// The bytes of argument i, put into the room: none where there is no such argument, or it is longer than the room.
+pub fn arg<'a>(rt: &HostRuntime, i: usize, room: &'a mut [u8]) -> &'a [u8]
+    ensures { length result.now ≤ length room.old }
 {
-    match rt.arg(i, room) {
-        Ok(n) => n,
-        Err(_) => 0,
-    }
+    let n = rt.arg(i, &mut *room).unwrap_or(0);
+    &room[..n]
 }
 
 // Whether there is an argument i.
 fn is_given(rt: &HostRuntime, i: usize) -> bool {
     let mut one = [0u8; 1];
-    match rt.arg(i, &mut one) {
-        Ok(_) => true,
-        Err(FillError::TooLong) => true,
-        Err(FillError::NotPresent) => false,
-    }
+    !matches!(rt.arg(i, &mut one), Err(FillError::NotPresent))
 }
 
 // How many arguments there are, the program's name with them.
 pub fn arg_count(rt: &HostRuntime) -> usize {
-    for i in 0..usize::MAX {
-        if !is_given(rt, i) {
-            return i;
-        }
-    }
-    usize::MAX
+    (0..usize::MAX)
+        .position(|i| !is_given(rt, i))
+        .unwrap_or(usize::MAX)
 }

@@ -1,70 +1,42 @@
 // Which file a name stands for: two names are of one file where the system gives them one device and one number there, whether
 // by another path, a symbolic link or a hard link.
-ghost use Rattle.std.specs.Prelude.{◌≡◌, ◌&&◌, ◌==◌};
-
 use crate::args::arg;
 use crate::files::PATH;
 use std::fs;
 use std::fs::Metadata;
 use std::os::unix::fs::{FileTypeExt, MetadataExt};
 
-// A file by its device and its number there (its inode). Nothing is known of a name that no file has; and a character device, as
-// /dev/null or a terminal, is taken for no file: what is written to one isn't what is read from it.
-#[derive(Clone, Copy)]
+// A file by its device and its number there (its inode).
+#[derive(Clone, Copy, PartialEq, Eq)]
 struct Identity {
-    known: bool,
     device: u64,
     number: u64,
 }
 
-fn unknown() -> Identity {
-    Identity {
-        known: false,
-        device: 0,
-        number: 0,
-    }
-}
-
-// What the system says of a file that was found.
-fn identity_in(found: &Metadata) -> Identity {
+// What the system says of a file that was found: nothing of a character device, as /dev/null or a terminal, which is taken for no file:
+// what is written to one isn't what is read from it.
+fn identity_in(found: &Metadata) -> Option<Identity> {
     if found.file_type().is_char_device() {
-        return unknown();
+        return None;
     }
-    Identity {
-        known: true,
+    Some(Identity {
         device: found.dev(),
         number: found.ino(),
-    }
+    })
 }
 
-// The file of a path.
-fn look_up(rt: &HostRuntime, path: &str) -> Identity {
-    match fs::metadata(rt, path) {
-        Ok(found) => identity_in(&found),
-        Err(_) => unknown(),
-    }
-}
-
-// The file that argument i names.
-fn identity_of(rt: &HostRuntime, i: usize) -> Identity {
-    let mut path = [0u8; PATH];
-    let n = arg(rt, i, &mut path);
-    if n == 0 {
-        return unknown();
-    }
-    match str::from_utf8(&path[..n]) {
-        Ok(name) => look_up(rt, name),
-        Err(_) => unknown(),
-    }
-}
-
-fn is_same(a: Identity, b: Identity) -> bool
-    ensures { result ≡ (a.known && b.known && a.device == b.device && a.number == b.number) }
-{
-    a.known & b.known & (a.device == b.device) & (a.number == b.number)
+// The file that argument i names, if there is one.
+fn identity_of(rt: &HostRuntime, i: usize) -> Option<Identity> {
+    let mut room = [0u8; PATH];
+    let path = str::from_utf8(arg(rt, i, &mut room)).ok()?;
+    let found = fs::metadata(rt, path).ok()?;
+    identity_in(&found)
 }
 
 // Whether arguments i and j name one file.
 pub fn name_one_file(rt: &HostRuntime, i: usize, j: usize) -> bool {
-    is_same(identity_of(rt, i), identity_of(rt, j))
+    match (identity_of(rt, i), identity_of(rt, j)) {
+        (Some(a), Some(b)) => a == b,
+        _ => false,
+    }
 }

@@ -1,83 +1,50 @@
 // A file of text, read as a whole.
-ghost use Rattle.std.specs.Prelude.{◌≤◌, length};
+ghost use Rattle.std.specs.Prelude.{◌≤◌, length, OnOk, IfOk};
 
-use crate::files::{close_file, last_error, open_file};
-use bits::at_most;
+use crate::failure::Failure;
+use crate::files::open_file;
+use crate::stop::Stop;
 use std::fs::File;
 use std::io::Read;
 
 // The most bytes that a text has, and one more, which shows that a file is longer.
 pub const TEXT: usize = 131072;
 
-// How many bytes of a file were read, whether there are more, and the error that ended the reading, 0 where none did.
-#[derive(Clone, Copy)]
-struct Filled {
-    goes_on: bool,
-    count: usize,
-    error: i32,
+// Where in a file the reading failed, and why.
+struct Broken {
+    at: usize,
+    failure: Failure,
 }
 
-// Reads what comes next.
-fn fill_more(file: &File, f: Filled, text: &mut [u8]) -> Filled
-    ensures { result.count ≤ length text.old }
+// Reads a file until its end, or until the room is full: how many bytes there are.
+fn fill(file: &File, room: &mut [u8]) -> Result<usize, Broken>
+    ensures { IfOk result (λ n. n ≤ length room.old) }
 {
-    let at = at_most(f.count, text.len());
     let mut from = file;
-    match from.read(&mut text[at..]) {
-        Err(e) => Filled {
-            goes_on: false,
-            count: at,
-            error: last_error(&e),
-        },
-        Ok(n) => Filled {
-            goes_on: n > 0,
-            count: at + n,
-            error: 0,
-        },
+    let mut at = 0;
+    for _ in 0..u64::MAX {
+        match from.read(&mut room[at..]) {
+            Ok(0) => break,
+            Ok(n) => at += n,
+            Err(e) => {
+                let failure = Failure::from(e);
+                return Err(Broken { at, failure });
+            }
+        }
     }
+    Ok(at)
 }
 
-// Reads a file until its end, or until the room is full.
-fn fill(file: &File, text: &mut [u8]) -> Filled
-    ensures { result.count ≤ length text.old }
+// The text of the file that argument i names, as far as there is room for it. Where it can't be opened or read, it is said why.
+pub fn read_text<'a>(rt: &HostRuntime, i: usize, room: &'a mut [u8]) -> Result<&'a [u8], Stop>
+    ensures { IfOk result (λ text. length text.now ≤ length room.old) }
 {
-    let mut f = Filled {
-        goes_on: true,
-        count: 0,
-        error: 0,
-    };
-    let mut turns: usize = TEXT + 1;
-    while turns > 0 && f.goes_on {
-        f = fill_more(file, f, &mut *text);
-        turns -= 1;
-    }
-    f
-}
-
-// Whether a file was opened, how many of its bytes were read, and the error that ended the reading, 0 where none did.
-#[derive(Clone, Copy)]
-pub struct TextRead {
-    pub opened: bool,
-    pub count: usize,
-    pub error: i32,
-}
-
-// Reads the file that argument i names, as far as there is room. Where it can't be opened, it is said why.
-pub fn read_text(rt: &HostRuntime, i: usize, text: &mut [u8]) -> TextRead
-    ensures { result.count ≤ length text.old }
-{
-    let Some(file) = open_file(rt, i) else {
-        return TextRead {
-            opened: false,
-            count: 0,
-            error: 0,
-        };
-    };
-    let f = fill(&file, text);
-    close_file(file);
-    TextRead {
-        opened: true,
-        count: f.count,
-        error: f.error,
+    let file = open_file(rt, i)?;
+    match fill(&file, &mut *room) {
+        Ok(n) => Ok(&room[..n]),
+        Err(Broken { at, failure }) => {
+            failure.complain_read(rt, i, at as u64);
+            Err(Stop::Unusable)
+        }
     }
 }

@@ -2,7 +2,6 @@
 ghost use Rattle.std.specs.Prelude.{◌≡◌, ◌+◌, ◌%◌, ◌^◌};
 ghost use Rattle.cli_replay.specs.Counting.{to_next, kinds_in, ahead_after};
 
-use cli_io::counts::plus;
 use decode::gathering::size_of;
 
 // How many kind bytes were consumed, and how many bytes lie before the next one.
@@ -32,16 +31,17 @@ pub fn count_kinds(kinds: Kinds, bytes: &[u8]) -> Kinds
     ensures ahead_value { result.ahead ≡ ahead_after kinds.ahead bytes.now }
 {
     let mut n: u64 = 0;
-    let mut from: usize = 0;
     let mut ahead = kinds.ahead;
-    while ahead < bytes.len() - from {
-        let at = from + ahead;
-        ahead = to_next(bytes[at]);
-        from = at + 1;
-        n += 1;
+    for b in bytes {
+        if ahead == 0 {
+            n += 1;
+            ahead = to_next(*b);
+        } else {
+            ahead -= 1;
+        }
     }
     Kinds {
-        begun: plus(kinds.begun, n),
-        ahead: ahead - (bytes.len() - from),
+        begun: kinds.begun.wrapping_add(n),
+        ahead,
     }
 }

@@ -3,5 +3,5 @@
 
 pub mod counting; // how many records have begun
 pub mod session; // the bench and the replay, from one call to the next
-pub mod turns; // pieces are read, and entries are replayed and printed
+pub mod capture_source; // a capture, and the lines of its answers
 pub mod ending; // the end of a replay in words

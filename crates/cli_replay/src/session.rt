@@ -3,10 +3,8 @@ ghost use Rattle.std.specs.Prelude.{◌≡◌};
 ghost use Rattle.cli_replay.specs.Sessions.{carried_of, stamp_offset, kind_offset, records_run, advances_run, owes_advance, stamp_in_hand, fault_at_kind, fault_at_end, fault_of};
 
 use crate::counting::{Kinds, no_kinds};
-use bits::{u64_of_usize, usize_of_u8};
 use capture::Replay;
 use capture_lines::CaptureFault;
-use cli_io::counts::{minus, plus};
 use cli_run::session::Session;
 use decode::gathering::size_of;
 use describe_capture::finding::{end_fault, kind_fault};
@@ -29,7 +27,7 @@ pub fn begin_replay(session: Session) -> ReplaySession
     ensures { result.session ≡ session }
 {
     ReplaySession {
-        session: session,
+        session,
         replay: replay_state::stamps::fresh(),
         moments: no_moments(),
         kinds: no_kinds(),
@@ -42,9 +40,7 @@ pub fn begin_replay(session: Session) -> ReplaySession
 pub fn carried_of(s: ReplaySession) -> usize
     ensures { result ≡ carried_of s }
 {
-    let session = s.session;
-    let port = session.port;
-    port.carried_len
+    s.session.port.carried_len
 }
 
 // Where the stamp starts that is taken next, or in part.
@@ -52,9 +48,7 @@ pub fn carried_of(s: ReplaySession) -> usize
 pub fn stamp_offset(s: ReplaySession) -> u64
     ensures { result ≡ stamp_offset s }
 {
-    let session = s.session;
-    let replay = s.replay;
-    minus(session.offset, u64_of_usize(replay.stamp_len))
+    s.session.offset.saturating_sub(s.replay.stamp_len as u64)
 }
 
 // Where the kind byte is of the record that is carried, or comes next.
@@ -62,12 +56,12 @@ pub fn stamp_offset(s: ReplaySession) -> u64
 pub fn kind_offset(s: ReplaySession) -> u64
     ensures { result ≡ kind_offset s }
 {
-    let session = s.session;
     let carried = carried_of(s);
     if carried > 0 {
-        return minus(session.offset, u64_of_usize(carried));
+        s.session.offset.saturating_sub(carried as u64)
+    } else {
+        stamp_offset(s).wrapping_add(4)
     }
-    plus(stamp_offset(s), 4)
 }
 
 // How many records have run, and how many advances.
@@ -75,19 +69,19 @@ pub fn kind_offset(s: ReplaySession) -> u64
 pub fn records_run(s: ReplaySession) -> u64
     ensures { result ≡ records_run s }
 {
-    let kinds = s.kinds;
+    let begun = s.kinds.begun;
     if carried_of(s) > 0 {
-        return minus(kinds.begun, 1);
+        begun.saturating_sub(1)
+    } else {
+        begun
     }
-    kinds.begun
 }
 
 #[tactic(auto, unfolding(crate::specs::Sessions::advances_run))]
 pub fn advances_run(s: ReplaySession) -> u64
     ensures { result ≡ advances_run s }
 {
-    let session = s.session;
-    minus(session.records, records_run(s))
+    s.session.records.saturating_sub(records_run(s))
 }
 
 // Whether the next answer is that of an advance, before this stamp's record.
@@ -95,24 +89,25 @@ pub fn advances_run(s: ReplaySession) -> u64
 pub fn owes_advance(s: ReplaySession, stamp: Stamp) -> bool
     ensures { result ≡ owes_advance s stamp }
 {
-    let replay = s.replay;
-    let earlier = replay.earlier;
-    let due = advance_count(difference(earlier, stamp));
-    replay.begun & (carried_of(s) == 0) & (usize_of_u8(replay.answered) < due)
+    match s.replay.earlier {
+        Some(earlier) => {
+            let due = advance_count(difference(earlier, stamp));
+            carried_of(s) == 0 && usize::from(s.replay.answered) < due
+        }
+        None => false,
+    }
 }
 
 // ---- What is wrong at the end
 
 #[tactic(auto, unfolding(crate::specs::Sessions::fault_at_kind))]
-fn fault_at_kind(s: ReplaySession) -> CaptureFault
+fn fault_at_kind(s: ReplaySession) -> Option<CaptureFault>
     ensures { result ≡ fault_at_kind s }
 {
-    let session = s.session;
     let replay = s.replay;
-    let earlier = replay.earlier;
-    let bytes = replay.stamp;
-    let kind = session.stopped_at;
-    kind_fault(replay.begun, earlier, stamp_in(bytes), kind, size_of(kind))
+    let kind = s.session.stopped_at;
+    let stamp = stamp_in(replay.stamp);
+    kind_fault(replay.earlier, stamp, kind, size_of(kind))
 }
 
 // The stamp of what is in hand: of a record, or else the stamp itself.
@@ -120,27 +115,23 @@ fn fault_at_kind(s: ReplaySession) -> CaptureFault
 fn stamp_in_hand(s: ReplaySession) -> Stamp
     ensures { result ≡ stamp_in_hand s }
 {
-    let replay = s.replay;
-    let bytes = replay.stamp;
-    let earlier = replay.earlier;
+    let stamp = stamp_in(s.replay.stamp);
     if carried_of(s) > 0 {
-        return earlier;
+        s.replay.earlier.unwrap_or(stamp)
+    } else {
+        stamp
     }
-    stamp_in(bytes)
 }
 
 #[tactic(auto, unfolding(crate::specs::Sessions::fault_at_end))]
-fn fault_at_end(s: ReplaySession) -> CaptureFault
+fn fault_at_end(s: ReplaySession) -> Option<CaptureFault>
     ensures { result ≡ fault_at_end s }
 {
-    let session = s.session;
-    let port = session.port;
-    let replay = s.replay;
-    let carried = port.carried;
-    let kind = carried[0];
+    let port = s.session.port;
+    let kind = port.carried[0];
     end_fault(
         stamp_in_hand(s),
-        replay.stamp_len,
+        s.replay.stamp_len,
         kind,
         port.carried_len,
         size_of(kind),
@@ -149,12 +140,12 @@ fn fault_at_end(s: ReplaySession) -> CaptureFault
 
 // What ended the replay early, if anything did: 31, 32 or 33 at a kind byte, or the end of the file.
 #[tactic(auto, unfolding(crate::specs::Sessions::fault_of))]
-pub fn fault_of(s: ReplaySession) -> CaptureFault
+pub fn fault_of(s: ReplaySession) -> Option<CaptureFault>
     ensures { result ≡ fault_of s }
 {
-    let session = s.session;
-    if session.number > 30 {
-        return fault_at_kind(s);
+    if s.session.number > 30 {
+        fault_at_kind(s)
+    } else {
+        fault_at_end(s)
     }
-    fault_at_end(s)
 }

@@ -1,333 +1,91 @@
-// Turn by turn: a piece of the trace is read, and fed whole, or record by record with a line for each.
-ghost use Rattle.std.specs.Prelude.{◌≡◌};
+// Turn by turn: a piece of a file is read, and fed whole, or bit by bit with a line for each.
+ghost use Rattle.std.specs.Prelude.{◌≤◌};
 
-use crate::flow::{Flow, Way, after_call, first_flow, has_bytes, read_on, with_lines, with_room};
-use crate::session::{Session, after, record_offset};
-use bits::{at_most, byte_at};
-use cli_io::printing::{Waiting, end_line};
-use cli_io::trace_file::{Held, is_full, nothing_held, take};
-use decode::gathering::size_of;
-use describe_trace::trace_words::{put_incomplete, put_run, put_unknown};
-use readiness::Setup;
+use crate::flow::Flow;
+use crate::memory::Memory;
+use crate::session::Session;
+use cli_io::input::Reading;
+use cli_io::output::Output;
 
-// What goes from turn to turn, beside what is lent; `held` is the record that is fed, as far as its bytes are read.
-#[derive(Clone, Copy)]
-pub struct Turn {
-    pub goes_on: bool,
-    pub session: Session,
-    pub flow: Flow,
-    pub held: Held,
-}
+// What is fed turn by turn: a trace, or a capture.
+pub trait Source {
+    // The bench, and how far the file is.
+    fn session(&self) -> Session;
 
-// A turn that goes on unless the trace is at its end, or something can't be read or written.
-fn turned(session: Session, flow: Flow, held: Held) -> Turn
-    ensures { result.session ≡ session }
-{
-    Turn {
-        goes_on: session.goes_on & flow.is_whole,
-        session: session,
-        flow: flow,
-        held: held,
-    }
-}
+    // How many of the bytes that were read are fed next, up to the end of what has a line of its own; `left` are still to be fed of those
+    // that were taken before.
+    fn take(&mut self, bytes: &[u8], left: usize) -> usize;
 
-// The first turn after a set-up.
-pub fn first_turn(session: Session) -> Turn
-    ensures { result.session ≡ session }
-{
-    turned(session, first_flow(), nothing_held())
-}
-
-// ---- Before a call
-
-// Up to where the piece is fed next: up to the end of the next record, where each has its line, or else whole.
-fn with_next(t: Turn, input: &[u8], way: Way<'_>) -> Turn {
-    let session = t.session;
-    let mut flow = t.flow;
-    let piece = flow.piece;
-    let first = t.held;
-    if way.quiet {
-        flow.stop = piece.to;
-        return turned(session, flow, first);
-    }
-    let took = take(first, input, piece.from, piece.to);
-    let held = took.held;
-    flow.stop = took.from;
-    turned(session, flow, held)
-}
-
-// With room for one more answer.
-fn prepared(before: Turn, input: &[u8], answers: &[u8], way: Way<'_>) -> Turn {
-    let t = with_next(before, input, way);
-    let session = t.session;
-    let flow = t.flow;
-    let held = t.held;
-    turned(session, with_room(flow, answers, way), held)
-}
-
-// ---- After a call
-
-// The line of a record that was run, or of a byte that is no kind.
-fn put_call(
-    printed: &mut [u8],
-    at: usize,
-    before: Session,
-    after: Session,
-    held: Held,
-    answer: &[u8],
-) -> usize {
-    let bytes = held.bytes;
-    let port = after.port;
-    let dev = port.dev;
-    let clock = dev.clock;
-    let offset = record_offset(before);
-    if after.number == 31 {
-        return put_unknown(printed, at, offset, bytes[0]);
-    }
-    let item = decode::decoding::decode(bytes);
-    put_run(printed, at, offset, clock, item, answer)
-}
-
-// The lines that wait after a call.
-fn with_line(
-    rt: &HostRuntime,
-    t: Turn,
-    after: Session,
-    printed: &mut [u8],
-    answers: &[u8],
-) -> Waiting {
-    let before = t.session;
-    let flow = t.flow;
-    let held = t.held;
-    let waits = flow.out;
-    let kept = flow.kept;
-    let k = at_most(kept.count, answers.len());
-    let end = put_call(
-        &mut *printed,
-        waits.count,
-        before,
-        after,
-        held,
-        &answers[k..],
+    // Feeds bytes; where there is a line of it then, it is printed.
+    // Kept: the parts of what flows are lent one by one, since the bytes and the room for answers are parts of it too.
+    fn feed(
+        &mut self,
+        memory: &mut Memory<'_>,
+        bytes: &[u8],
+        answers: &mut [u8],
+        printed: &mut Output<'_>,
     );
-    end_line(rt, printed, waits, end)
+
+    // The line of what the file's end cuts off.
+    fn print_rest(&self, printed: &mut Output<'_>);
 }
 
-// The turn after a call: where a whole record was fed, or a byte that is no kind, its line is printed.
-fn concluded(
-    rt: &HostRuntime,
-    t: Turn,
-    after: Session,
-    printed: &mut [u8],
-    answers: &[u8],
-) -> Turn {
-    let held = t.held;
-    let flow = t.flow;
-    if is_full(held) {
-        let shown = with_lines(flow, with_line(rt, t, after, printed, answers));
-        return turned(
-            after,
-            after_call(shown, after.consumed, after.written),
-            nothing_held(),
-        );
-    }
-    turned(after, after_call(flow, after.consumed, after.written), held)
+// How much room the next call has: that of one answer, where each has its line, or else all that is free.
+fn room_of(free: usize, quiet: bool) -> usize
+    ensures { result ≤ free }
+{
+    if quiet { free } else { free.min(8) }
 }
-
-// ---- A call of feed
-
-fn feed_bytes(
-    setup: Setup,
-    s: Session,
-    live: &mut [u32],
-    defaults: &[u32],
-    cells: &mut [u32],
-    bytes: &[u8],
-    answers: &mut [u8],
-) -> Session {
-    let port = s.port;
-    let statuses = s.statuses;
-    let fed = bench_by_value::feed_first(
-        setup,
-        port,
-        statuses,
-        setup.slots,
-        live,
-        defaults,
-        cells,
-        bytes,
-        answers,
-    );
-    after(s, fed, byte_at(bytes, fed.consumed))
-}
-
-// Feeds the bytes from `from` up to `to`.
-fn feed_part(
-    setup: Setup,
-    s: Session,
-    live: &mut [u32],
-    defaults: &[u32],
-    cells: &mut [u32],
-    bytes: &[u8],
-    from: usize,
-    to: usize,
-    answers: &mut [u8],
-) -> Session {
-    if from <= to {
-        if to <= bytes.len() {
-            return feed_bytes(setup, s, live, defaults, cells, &bytes[from..to], answers);
-        }
-    }
-    s
-}
-
-// ---- Turns
 
 // Feeds from the piece that was read.
-fn run_bytes(
-    rt: &HostRuntime,
-    setup: Setup,
-    before: Turn,
-    live: &mut [u32],
-    defaults: &[u32],
-    cells: &mut [u32],
-    input: &[u8],
-    printed: &mut [u8],
-    answers: &mut [u8],
-    way: Way<'_>,
-) -> Turn {
-    let t = prepared(before, input, answers, way);
-    let session = t.session;
-    let flow = t.flow;
-    let piece = flow.piece;
-    let kept = flow.kept;
-    let k = at_most(kept.count, answers.len());
-    let after = feed_part(
-        setup,
-        session,
-        live,
-        defaults,
-        cells,
-        input,
-        piece.from,
-        flow.stop,
-        &mut answers[k..],
-    );
-    concluded(rt, t, after, printed, answers)
+fn feed_piece<S: Source>(source: &mut S, memory: &mut Memory<'_>, flow: &mut Flow<'_>) {
+    let quiet = flow.quiet;
+    let left = flow.left;
+    let input = &mut flow.input;
+    let kept = &mut flow.kept;
+    let printed = &mut flow.printed;
+    let bytes = input.unread();
+    let n = if quiet {
+        bytes.len()
+    } else {
+        source.take(bytes, left).min(bytes.len())
+    };
+    kept.make_room(8);
+    let count = kept.count;
+    let free = &mut kept.bytes[count..];
+    let room = room_of(free.len(), quiet);
+    source.feed(memory, &bytes[..n], &mut free[..room], printed);
+    let session = source.session();
+    kept.wrote(session.written);
+    input.pass(session.consumed);
+    flow.left = n.saturating_sub(session.consumed);
 }
 
-// The line of the record that the file's end cuts off.
-fn put_rest(printed: &mut [u8], at: usize, s: Session) -> usize {
-    let port = s.port;
-    let carried = port.carried;
-    let kind = carried[0];
-    put_incomplete(
-        printed,
-        at,
-        record_offset(s),
-        kind,
-        port.carried_len,
-        size_of(kind),
-    )
-}
-
-fn print_rest(
-    rt: &HostRuntime,
-    s: Session,
-    w: Waiting,
-    printed: &mut [u8],
-    quiet: bool,
-) -> Waiting {
-    let port = s.port;
-    if quiet | (port.carried_len == 0) {
-        return w;
+// The end of the file, perhaps within what has a line of its own.
+fn finish<S: Source>(source: &S, flow: &mut Flow<'_>) {
+    if !flow.quiet && flow.input.reading() == Reading::Ended {
+        source.print_rest(&mut flow.printed);
     }
-    let end = put_rest(&mut *printed, w.count, s);
-    end_line(rt, printed, w, end)
 }
 
-// The end of the file, perhaps within a record, which the bench carries.
-fn finished(rt: &HostRuntime, t: Turn, printed: &mut [u8], way: Way<'_>) -> Turn {
-    let mut session = t.session;
-    let flow = t.flow;
-    let held = t.held;
-    let waits = flow.out;
-    let piece = flow.piece;
-    let quiet = way.quiet | (piece.error != 0);
-    let out = print_rest(rt, session, waits, printed, quiet);
-    session.goes_on = false;
-    turned(session, with_lines(flow, out), held)
-}
-
-// Without feeding: the next piece is read, or the trace is at its end.
-fn read_or_finish(
+// Feeds until the file is at its end, the bench stops, or something can't be read or written. A proved loop has to end, and nothing says
+// that a file does: no run uses up so many turns.
+pub fn feed_all<S: Source>(
     rt: &HostRuntime,
-    t: Turn,
-    input: &mut [u8],
-    printed: &mut [u8],
-    way: Way<'_>,
-) -> Turn {
-    let session = t.session;
-    let flow = t.flow;
-    let held = t.held;
-    let piece = flow.piece;
-    if piece.ended {
-        return finished(rt, t, printed, way);
+    source: &mut S,
+    memory: &mut Memory<'_>,
+    flow: &mut Flow<'_>,
+) {
+    for _ in 0..u64::MAX {
+        if !flow.input.unread().is_empty() {
+            feed_piece(source, memory, flow);
+        } else if flow.input.reading() == Reading::Goes {
+            flow.read_on(rt, source.session().offset);
+        } else {
+            return finish(source, flow);
+        }
+        if !flow.is_whole() || !source.session().goes_on() {
+            return;
+        }
     }
-    let next = read_on(rt, flow, session.offset, input, printed, way);
-    turned(session, next, held)
-}
-
-fn run_turn(
-    rt: &HostRuntime,
-    setup: Setup,
-    t: Turn,
-    live: &mut [u32],
-    defaults: &[u32],
-    cells: &mut [u32],
-    input: &mut [u8],
-    printed: &mut [u8],
-    answers: &mut [u8],
-    way: Way<'_>,
-) -> Turn {
-    let flow = t.flow;
-    if has_bytes(flow) {
-        return run_bytes(
-            rt, setup, t, live, defaults, cells, input, printed, answers, way,
-        );
-    }
-    read_or_finish(rt, t, input, printed, way)
-}
-
-// A proved loop has to end, and nothing says that a file does: it counts its turns down from a number that no run uses up.
-pub fn run_all(
-    rt: &HostRuntime,
-    setup: Setup,
-    first: Turn,
-    live: &mut [u32],
-    defaults: &[u32],
-    cells: &mut [u32],
-    input: &mut [u8],
-    printed: &mut [u8],
-    answers: &mut [u8],
-    way: Way<'_>,
-) -> Turn {
-    let mut t = first;
-    let mut turns = u64::MAX;
-    while turns > 0 && t.goes_on {
-        t = run_turn(
-            rt,
-            setup,
-            t,
-            &mut *live,
-            defaults,
-            &mut *cells,
-            &mut *input,
-            &mut *printed,
-            &mut *answers,
-            way,
-        );
-        turns -= 1;
-    }
-    t
 }

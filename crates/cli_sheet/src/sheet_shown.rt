@@ -1,24 +1,24 @@
 // `otsnebura sheet CARD SHEET`: the card with the times of the sheet, and what is wrong with them.
-use bits::{at_most, u64_of_usize};
-use cli_arguments::outcome::{Outcome, unless_error};
-use cli_card::card_file::{Loaded, load_card};
+use cli_card::card_file::load_card;
 use cli_io::args::arg;
-use cli_io::files::{PATH, after_printing, complain_read};
-use cli_io::printing::{Sink, Waiting, flush, flush_out};
+use cli_io::failure::{Failure, after_printing};
+use cli_io::files::{PATH, complain};
+use cli_io::sink::Sink;
+use cli_io::stop::Stop;
 use cli_io::text_file::{TEXT, read_text};
+use cli_run::memory::Card;
 use readiness::Setup;
 use sheet_text::{put_card, put_doubts, put_refused};
+use text_line::Page;
 
 // The arguments that name the card and the sheet, and whether only what is wrong is printed.
 #[derive(Clone, Copy)]
 pub struct SheetCall {
     pub card: usize,
     pub sheet: usize,
+    // Kept: a switch that is given or not.
     pub check: bool,
 }
-
-// Room for a line after a name of 4096 bytes.
-const REFUSAL: usize = 8192;
 
 // So many bytes of a name leave room for a line about each of 128 times.
 const NAME: usize = 800;
@@ -26,115 +26,57 @@ const NAME: usize = 800;
 // ---- What is printed
 
 // Says why the sheet that argument i names is refused.
-fn refuse_sheet(rt: &HostRuntime, i: usize, setup: Setup, text: &[u8]) -> Outcome {
+fn refuse_sheet(rt: &HostRuntime, i: usize, setup: Setup, text: &[u8]) -> Stop {
     let mut name = [0u8; PATH];
-    let mut line = [0u8; REFUSAL];
-    let n = arg(rt, i, &mut name);
-    let count = put_refused(&mut line, 0, &name[..n], setup, text);
-    flush(
-        Sink::Errors(rt),
-        &line,
-        Waiting {
-            count: count,
-            error: 0,
-        },
-    );
-    Outcome::Refused
+    let mut page = Page::new();
+    put_refused(&mut page, arg(rt, i, &mut name), setup, text);
+    complain(rt, page.text());
+    Stop::Refused
 }
 
-// Says where the unit of the sheet with this name may be wrong.
-fn say_doubts(rt: &HostRuntime, name: &[u8], before: Setup, after: Setup, text: &[u8]) {
-    let mut lines = [0u8; TEXT];
-    let n = at_most(name.len(), NAME);
-    let count = put_doubts(&mut lines, 0, &name[0..n], before, after, text);
-    flush(
-        Sink::Errors(rt),
-        &lines,
-        Waiting {
-            count: count,
-            error: 0,
-        },
-    );
-}
-
-// The same for the sheet that argument i names.
+// Says where the unit of the sheet that argument i names may be wrong.
+// Kept: two set-ups and a text that come together in this call alone.
 fn show_doubts(rt: &HostRuntime, i: usize, before: Setup, after: Setup, text: &[u8]) {
-    let mut name = [0u8; PATH];
-    let n = arg(rt, i, &mut name);
-    say_doubts(rt, &name[..n], before, after, text);
+    let mut room = [0u8; PATH];
+    let mut page = Page::new();
+    let name = arg(rt, i, &mut room);
+    let n = name.len().min(NAME);
+    put_doubts(&mut page, &name[..n], before, after, text);
+    complain(rt, page.text());
 }
 
-// Prints the card after the sheet: the error of that, 0 where there is none.
-fn print_card(rt: &HostRuntime, setup: Setup, queue: usize, words: &[u32], text: &[u8]) -> i32 {
-    let mut printed = [0u8; TEXT];
-    let count = put_card(&mut printed, 0, setup, queue, words, text);
-    let out = flush_out(
-        rt,
-        &printed,
-        Waiting {
-            count: count,
-            error: 0,
-        },
-    );
-    after_printing(rt, out.error)
+// Prints the card with the set-up after the sheet.
+fn print_card(rt: &HostRuntime, card: &Card, after: Setup, text: &[u8]) -> Result<(), Failure> {
+    let mut page = Page::new();
+    put_card(&mut page, after, card.queue, &card.words, text);
+    after_printing(rt, Sink::Output(rt).write(page.text()))
 }
 
 // ---- The sheet on the card
 
-fn print_unless(
-    rt: &HostRuntime,
-    check: bool,
-    setup: Setup,
-    queue: usize,
-    words: &[u32],
-    text: &[u8],
-) -> i32 {
-    if check {
-        return 0;
-    }
-    print_card(rt, setup, queue, words, text)
-}
-
 // The card with the times of a sheet's text.
-fn with_times(
-    rt: &HostRuntime,
-    call: SheetCall,
-    card: Loaded,
-    words: &[u32],
-    text: &[u8],
-) -> Outcome {
+fn with_times(rt: &HostRuntime, call: SheetCall, card: &Card, text: &[u8]) -> Result<(), Stop> {
     let before = card.setup;
     let got = sheet::read(text, before);
     if got.number != 0 {
-        return refuse_sheet(rt, call.sheet, before, text);
+        return Err(refuse_sheet(rt, call.sheet, before, text));
     }
     let after = got.setup;
-    let error = print_unless(rt, call.check, after, card.queue, words, text);
+    let printed = if call.check {
+        Ok(())
+    } else {
+        print_card(rt, card, after, text)
+    };
     show_doubts(rt, call.sheet, before, after, text);
-    unless_error(error, Outcome::Done)
+    printed?;
+    Ok(())
 }
 
-// Reads the sheet, for a card. The room is more than enough: the longest sheet that is accepted has 1,856 bytes, and the earliest
-// bad line of a longer one stands within the room.
-fn with_sheet(rt: &HostRuntime, call: SheetCall, card: Loaded, words: &[u32]) -> Outcome {
-    let mut text = [0u8; TEXT];
-    let f = read_text(rt, call.sheet, &mut text);
-    if !f.opened {
-        return Outcome::Unusable;
-    }
-    if f.error != 0 {
-        complain_read(rt, call.sheet, u64_of_usize(f.count), f.error);
-        return Outcome::Unusable;
-    }
-    let n = at_most(f.count, TEXT);
-    with_times(rt, call, card, words, &text[0..n])
-}
-
-pub fn sheet_command(rt: &HostRuntime, call: SheetCall) -> Outcome {
-    let mut words = [0u32; 2048];
-    let loaded = load_card(rt, call.card, &mut words);
-    if loaded.good {
-        return with_sheet(rt, call, loaded, &words);
-    }
-    loaded.outcome
+// Reads the card and the sheet. The room is more than enough: the longest sheet that is accepted has 1,856 bytes, and the earliest bad line
+// of a longer one stands within the room.
+pub fn sheet_command(rt: &HostRuntime, call: SheetCall) -> Result<(), Stop> {
+    let card = load_card(rt, call.card)?;
+    let mut room = [0u8; TEXT];
+    let text = read_text(rt, call.sheet, &mut room)?;
+    with_times(rt, call, &card, text)
 }

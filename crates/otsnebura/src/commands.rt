@@ -1,14 +1,15 @@
 // The commands, by the first argument.
 use crate::answers::overwrites_input;
 use crate::help::help;
-use crate::options::{Options, is_replay, is_run, is_sheet, options_given};
-use crate::run::run;
+use crate::options::{Options, options_given};
+use crate::run::{Fed, Job, run};
 use crate::scoring::score_command;
 use cli_arguments::arguments::{arg_count, arg_is, bad_usage};
-use cli_arguments::outcome::Outcome;
-use cli_card::card_file::{Loaded, load_card};
+use cli_card::card_file::load_card;
 use cli_card::card_shown::show_card;
-use cli_io::files::{close_file, open_file};
+use cli_io::args::arg;
+use cli_io::files::open_file;
+use cli_io::stop::Stop;
 use cli_lateness::seen_file::load_seen;
 use cli_sheet::code_shown::code_command;
 use cli_sheet::sheet_shown::{SheetCall, sheet_command};
@@ -16,194 +17,177 @@ use cli_tools::message::message_command;
 use cli_tools::pack::pack;
 use cli_tools::show::show;
 use cli_tools::show_capture::show_capture;
+use std::fs::File;
 
-// ---- Show
-
-// Shows the trace that argument i names.
-fn show_trace(rt: &HostRuntime, i: usize) -> Outcome {
-    let Some(file) = open_file(rt, i) else {
-        return Outcome::Unusable;
-    };
-    let outcome = show(rt, &file, i);
-    close_file(file);
-    outcome
+enum CommandName {
+    Help,
+    Run,
+    Replay,
+    Score,
+    Card,
+    Sheet,
+    Code,
+    Show,
+    Pack,
+    Message,
 }
 
-// Shows the capture that argument i names.
-fn show_captured(rt: &HostRuntime, i: usize) -> Outcome {
-    let Some(file) = open_file(rt, i) else {
-        return Outcome::Unusable;
-    };
-    let outcome = show_capture(rt, &file, i);
-    close_file(file);
-    outcome
+impl CommandName {
+    fn of(word: &[u8]) -> Option<CommandName> {
+        match word {
+            b"--help" | b"-h" | b"help" => Some(CommandName::Help),
+            b"run" => Some(CommandName::Run),
+            b"replay" => Some(CommandName::Replay),
+            b"score" => Some(CommandName::Score),
+            b"card" => Some(CommandName::Card),
+            b"sheet" => Some(CommandName::Sheet),
+            b"code" => Some(CommandName::Code),
+            b"show" => Some(CommandName::Show),
+            b"pack" => Some(CommandName::Pack),
+            b"message" => Some(CommandName::Message),
+            _ => None,
+        }
+    }
 }
 
-fn show_command(rt: &HostRuntime) -> Outcome {
+// ---- Show, pack
+
+// Does something with the file that argument i names.
+fn with_file<F: FnOnce(&File) -> Result<(), Stop>>(
+    rt: &HostRuntime,
+    i: usize,
+    act: F,
+) -> Result<(), Stop>
+    requires { F.IsAlwaysCallable act }
+{
+    let file = open_file(rt, i)?;
+    act(&file)
+}
+
+fn show_trace(rt: &HostRuntime, i: usize) -> Result<(), Stop> {
+    with_file(rt, i, |file| show(rt, file, i))
+}
+
+fn show_captured(rt: &HostRuntime, i: usize) -> Result<(), Stop> {
+    with_file(rt, i, |file| show_capture(rt, file, i))
+}
+
+fn show_command(rt: &HostRuntime) -> Result<(), Stop> {
     let first = arg_is(rt, 2, b"--capture");
-    if (arg_count(rt) == 3) & !first {
-        return show_trace(rt, 2);
+    match arg_count(rt) {
+        3 if !first => show_trace(rt, 2),
+        4 if first => show_captured(rt, 3),
+        4 if arg_is(rt, 3, b"--capture") => show_captured(rt, 2),
+        _ => Err(bad_usage(
+            rt,
+            b"show wants one file, TRACE, or --capture and one file, CAPTURE",
+        )),
     }
-    if (arg_count(rt) == 4) & first {
-        return show_captured(rt, 3);
-    }
-    if (arg_count(rt) == 4) & arg_is(rt, 3, b"--capture") {
-        return show_captured(rt, 2);
-    }
-    bad_usage(
-        rt,
-        b"show wants one file, TRACE, or --capture and one file, CAPTURE",
-    )
 }
 
-// ---- Pack, card, sheet
-
-fn pack_command(rt: &HostRuntime) -> Outcome {
+fn pack_command(rt: &HostRuntime) -> Result<(), Stop> {
     if arg_count(rt) != 3 {
-        return bad_usage(rt, b"pack wants one file, HEX");
+        return Err(bad_usage(rt, b"pack wants one file, HEX"));
     }
-    let Some(file) = open_file(rt, 2) else {
-        return Outcome::Unusable;
-    };
-    let outcome = pack(rt, &file, 2);
-    close_file(file);
-    outcome
+    with_file(rt, 2, |file| pack(rt, file, 2))
 }
 
-fn card_command(rt: &HostRuntime) -> Outcome {
+// ---- Card, sheet
+
+fn card_command(rt: &HostRuntime) -> Result<(), Stop> {
     if arg_count(rt) != 3 {
-        return bad_usage(rt, b"card wants one file, CARD");
+        return Err(bad_usage(rt, b"card wants one file, CARD"));
     }
-    let mut words = [0u32; 2048];
-    let loaded = load_card(rt, 2, &mut words);
-    if loaded.good {
-        return show_card(rt, 2, loaded, &words);
-    }
-    loaded.outcome
+    let card = load_card(rt, 2)?;
+    show_card(rt, 2, &card)
 }
 
 // The card with the times of a sheet.
-fn times_command(rt: &HostRuntime) -> Outcome {
-    let o = options_given(rt);
-    if !is_sheet(rt, o) {
-        return bad_usage(rt, b"sheet wants CARD and SHEET, and takes --check");
+fn times_command(rt: &HostRuntime) -> Result<(), Stop> {
+    match options_given(rt) {
+        Some(o) if o.is_sheet() => sheet_command(
+            rt,
+            SheetCall {
+                card: o.card,
+                sheet: o.input,
+                check: o.check,
+            },
+        ),
+        _ => Err(bad_usage(rt, b"sheet wants CARD and SHEET, and takes --check")),
     }
-    sheet_command(
-        rt,
-        SheetCall {
-            card: o.card,
-            sheet: o.input,
-            check: o.check,
-        },
-    )
 }
 
 // ---- Run, replay
 
-fn run_card(rt: &HostRuntime, card: Loaded, words: &[u32], o: Options) -> Outcome {
-    let Some(input) = open_file(rt, o.input) else {
-        return Outcome::Unusable;
+// Runs a trace, or replays a capture; the seen times are read first, where their file is named.
+fn run_options(rt: &HostRuntime, o: Options, capture: bool) -> Result<(), Stop> {
+    if overwrites_input(rt, o, capture) {
+        return Err(Stop::Unusable);
+    }
+    let card = load_card(rt, o.card)?;
+    let seen = match o.seen {
+        Some(i) => Some(load_seen(rt, i, card.setup.slots)?),
+        None => None,
     };
-    let setup = card.setup;
-    let outcome = run(rt, setup, card.queue, words, o, &input);
-    close_file(input);
-    outcome
+    let fed = if capture {
+        Fed::Capture(seen)
+    } else {
+        Fed::Trace
+    };
+    let job = Job {
+        rt,
+        options: o,
+        fed,
+    };
+    with_file(rt, o.input, |input| run(job, &card, input))
 }
 
-// Reads the seen times first, where their file is named.
-fn run_seen(rt: &HostRuntime, card: Loaded, words: &[u32], o: Options) -> Outcome {
-    if o.seen == 0 {
-        return run_card(rt, card, words, o);
-    }
-    let setup = card.setup;
-    let file = load_seen(rt, o.seen, setup.slots);
-    if !file.good {
-        return file.outcome;
-    }
-    let times = file.times;
-    let mut p = o;
-    p.times = times;
-    run_card(rt, card, words, p)
-}
-
-// Runs a trace, or replays a capture.
-fn run_options(rt: &HostRuntime, o: Options) -> Outcome {
-    if overwrites_input(rt, o) {
-        return Outcome::Unusable;
-    }
-    let mut words = [0u32; 2048];
-    let loaded = load_card(rt, o.card, &mut words);
-    if loaded.good {
-        return run_seen(rt, loaded, &words, o);
-    }
-    loaded.outcome
-}
-
-fn run_command(rt: &HostRuntime) -> Outcome {
-    let o = options_given(rt);
-    if !is_run(rt, o) {
-        return bad_usage(
+fn run_command(rt: &HostRuntime) -> Result<(), Stop> {
+    match options_given(rt) {
+        Some(o) if o.is_run() => run_options(rt, o, false),
+        _ => Err(bad_usage(
             rt,
             b"run wants CARD and TRACE, and takes --quiet and --answers FILE",
-        );
+        )),
     }
-    run_options(rt, o)
 }
 
-fn replay_command(rt: &HostRuntime) -> Outcome {
-    let mut o = options_given(rt);
-    if !is_replay(rt, o) {
-        return bad_usage(
+fn replay_command(rt: &HostRuntime) -> Result<(), Stop> {
+    match options_given(rt) {
+        Some(o) if o.is_replay() => run_options(rt, o, true),
+        _ => Err(bad_usage(
             rt,
             b"replay wants CARD and CAPTURE, and takes --quiet, --answers FILE and --seen FILE",
-        );
+        )),
     }
-    o.capture = true;
-    run_options(rt, o)
 }
 
 // ---- Any command
 
-fn file_command(rt: &HostRuntime) -> Outcome {
-    if arg_is(rt, 1, b"run") {
-        return run_command(rt);
+// The command that the first argument names, if it does; without an argument help.
+fn command_given(rt: &HostRuntime) -> Option<CommandName> {
+    if arg_count(rt) <= 1 {
+        return Some(CommandName::Help);
     }
-    if arg_is(rt, 1, b"replay") {
-        return replay_command(rt);
-    }
-    if arg_is(rt, 1, b"score") {
-        return score_command(rt);
-    }
-    if arg_is(rt, 1, b"card") {
-        return card_command(rt);
-    }
-    if arg_is(rt, 1, b"sheet") {
-        return times_command(rt);
-    }
-    if arg_is(rt, 1, b"show") {
-        return show_command(rt);
-    }
-    if arg_is(rt, 1, b"pack") {
-        return pack_command(rt);
-    }
-    bad_usage(
-        rt,
-        b"unknown command: expected run, replay, score, card, sheet, code, show, pack or message",
-    )
+    let mut room = [0u8; 16];
+    CommandName::of(arg(rt, 1, &mut room))
 }
 
-pub fn command(rt: &HostRuntime) -> Outcome {
-    if arg_count(rt) <= 1 {
-        return help(rt);
+pub fn command(rt: &HostRuntime) -> Result<(), Stop> {
+    match command_given(rt) {
+        Some(CommandName::Help) => help(rt),
+        Some(CommandName::Run) => run_command(rt),
+        Some(CommandName::Replay) => replay_command(rt),
+        Some(CommandName::Score) => score_command(rt),
+        Some(CommandName::Card) => card_command(rt),
+        Some(CommandName::Sheet) => times_command(rt),
+        Some(CommandName::Code) => code_command(rt),
+        Some(CommandName::Show) => show_command(rt),
+        Some(CommandName::Pack) => pack_command(rt),
+        Some(CommandName::Message) => message_command(rt),
+        None => Err(bad_usage(
+            rt,
+            b"unknown command: expected run, replay, score, card, sheet, code, show, pack or message",
+        )),
     }
-    if arg_is(rt, 1, b"--help") | arg_is(rt, 1, b"-h") | arg_is(rt, 1, b"help") {
-        return help(rt);
-    }
-    if arg_is(rt, 1, b"message") {
-        return message_command(rt);
-    }
-    if arg_is(rt, 1, b"code") {
-        return code_command(rt);
-    }
-    file_command(rt)
 }

@@ -1,11 +1,11 @@
 // The page of help.
-use cli_arguments::outcome::{Outcome, unless_error};
-use cli_io::files::after_printing;
-use cli_io::printing::{Sink, write_bytes};
+use cli_io::failure::after_printing;
+use cli_io::sink::Sink;
+use cli_io::stop::Stop;
 
-// A line of it; 0, or the error.
-fn say(rt: &HostRuntime, text: &[u8]) -> i32 {
-    write_bytes(Sink::Output(rt), text)
+// A line of it; whether it could be written shows at the last.
+fn say(rt: &HostRuntime, text: &[u8]) {
+    let _ = Sink::Output(rt).write(text);
 }
 
 fn help_commands(rt: &HostRuntime) {
@@ -224,20 +224,16 @@ fn help_seen(rt: &HostRuntime) {
     );
 }
 
-fn help_end(rt: &HostRuntime) -> i32 {
-    say(
-        rt,
-        b"Exit status: 0 done; 1 refused, or a broken or cut trace or capture; 2 bad usage, or a file that can't be read or written.\n",
-    )
-}
-
-pub fn help(rt: &HostRuntime) -> Outcome {
+pub fn help(rt: &HostRuntime) -> Result<(), Stop> {
     help_commands(rt);
     help_trace(rt);
     help_capture(rt);
     help_card(rt);
     help_sheet(rt);
     help_seen(rt);
-    let error = after_printing(rt, help_end(rt));
-    unless_error(error, Outcome::Done)
+    let end = Sink::Output(rt).write(
+        b"Exit status: 0 done; 1 refused, or a broken or cut trace or capture; 2 bad usage, or a file that can't be read or written.\n",
+    );
+    after_printing(rt, end)?;
+    Ok(())
 }

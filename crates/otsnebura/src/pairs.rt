@@ -1,191 +1,159 @@
 // What stands after `score`: a card, and captures each with its file of seen times; and --csv FILE, in any place.
-use crate::options::is_unknown;
-use cli_arguments::arguments::{arg_count, arg_is};
-use cli_arguments::outcome::Outcome;
-use cli_io::files::{close_file, complain, name_file, open_file};
+use crate::words::Word;
+use cli_arguments::arguments::arg_count;
+use cli_io::files::{complain, name_file, open_file};
 use cli_io::identity::name_one_file;
+use cli_io::stop::Stop;
 use cli_lateness::seen_file::load_seen;
 
-// Which argument is which, by its number, 0 where it isn't there.
+// Which argument is which, by its number; the others are captures and files of seen times in turn.
 #[derive(Clone, Copy)]
 pub struct ScoreCall {
     pub card: usize,
     // The word --csv, and the file after it.
-    pub word: usize,
-    pub csv: usize,
-    // The next argument is the file of --csv.
-    wants_file: bool,
-    // A capture is still without its seen times.
-    open: bool,
-    // There are a capture and its seen times.
-    any: bool,
-    // There are arguments that nothing asks for.
-    bad: bool,
+    word: Option<usize>,
+    pub csv: Option<usize>,
 }
 
 // ---- The arguments
 
-fn with_name(c: ScoreCall, i: usize) -> ScoreCall {
-    let mut d = c;
-    if c.card == 0 {
-        d.card = i;
-        return d;
-    }
-    d.any = c.any | c.open;
-    d.open = !c.open;
-    d
-}
-
-fn with_argument(rt: &HostRuntime, c: ScoreCall, i: usize) -> ScoreCall {
-    let mut d = c;
-    if c.wants_file {
-        d.csv = i;
-        d.wants_file = false;
-        return d;
-    }
-    if arg_is(rt, i, b"--csv") {
-        d.word = i;
-        d.wants_file = true;
-        d.bad = c.bad | (c.csv > 0);
-        return d;
-    }
-    if is_unknown(rt, i) {
-        d.bad = true;
-        return d;
-    }
-    with_name(c, i)
-}
-
-pub fn score_call(rt: &HostRuntime) -> ScoreCall {
-    let mut c = ScoreCall {
-        card: 0,
-        word: 0,
-        csv: 0,
-        wants_file: false,
-        open: false,
-        any: false,
-        bad: false,
-    };
-    let n = arg_count(rt);
-    let mut i: usize = 2;
-    while i < n {
-        c = with_argument(rt, c, i);
-        i += 1;
-    }
-    c
-}
-
-// Whether there is a card, and a capture, and each capture has its seen times.
-pub fn is_score(c: ScoreCall) -> bool {
-    (c.card > 0) & c.any & !c.open & !c.wants_file & !c.bad
-}
-
-// Whether an argument names a capture or a file of seen times.
-pub fn is_of_pair(c: ScoreCall, i: usize) -> bool {
-    (i != c.card) & (i != c.word) & (i != c.csv)
-}
-
-// ---- The file of rows is no input
-
-fn is_input(c: ScoreCall, i: usize) -> bool {
-    is_of_pair(c, i) | (i == c.card)
-}
-
-fn overwrites_one(rt: &HostRuntime, c: ScoreCall, i: usize) -> bool {
-    if is_input(c, i) {
-        return name_one_file(rt, c.csv, i);
-    }
-    false
-}
-
-fn overwrites_any(rt: &HostRuntime, c: ScoreCall) -> bool {
-    let n = arg_count(rt);
-    let mut found = false;
-    let mut i: usize = 2;
-    while i < n {
-        found = found | overwrites_one(rt, c, i);
-        i += 1;
-    }
-    found
-}
-
-// Whether the rows would overwrite an input, by whatever names; if so, it is said.
-pub fn overwrites_input(rt: &HostRuntime, c: ScoreCall) -> bool {
-    if c.csv == 0 {
-        return false;
-    }
-    if overwrites_any(rt, c) {
-        name_file(rt, c.csv);
-        complain(
-            rt,
-            b"the file for the rows is one that is read: expected a file that is neither the card nor a capture nor seen times\n",
-        );
-        return true;
-    }
-    false
-}
-
-// ---- Everything can be read
-
-// How far the files were looked at: the capture whose seen times come next, 0 where a capture does, and how it ended.
+// The captures that were named so far.
 #[derive(Clone, Copy)]
-pub struct Looked {
-    pub capture: usize,
-    pub good: bool,
-    pub outcome: Outcome,
+enum Captures {
+    // There is none.
+    None,
+    // The last one is still without its seen times.
+    Open,
+    Paired,
 }
 
-fn fails(outcome: Outcome) -> Looked {
-    Looked {
-        capture: 0,
-        good: false,
-        outcome: outcome,
+// The call as far as the arguments were looked at.
+#[derive(Clone, Copy)]
+struct Partial {
+    card: Option<usize>,
+    word: Option<usize>,
+    csv: Option<usize>,
+    captures: Captures,
+}
+
+impl Partial {
+    fn nothing() -> Partial {
+        Partial {
+            card: None,
+            word: None,
+            csv: None,
+            captures: Captures::None,
+        }
+    }
+
+    // The first name is the card's.
+    fn with_name(self, i: usize) -> Partial {
+        if self.card.is_none() {
+            return Partial {
+                card: Some(i),
+                ..self
+            };
+        }
+        let captures = match self.captures {
+            Captures::Open => Captures::Paired,
+            _ => Captures::Open,
+        };
+        Partial { captures, ..self }
+    }
+
+    // The same with argument i; none where nothing asks for it.
+    fn with_argument(self, i: usize, word: Word) -> Option<Partial> {
+        if self.word.is_some() && self.csv.is_none() {
+            return Some(Partial {
+                csv: Some(i),
+                ..self
+            });
+        }
+        match word {
+            Word::Csv if self.word.is_none() => Some(Partial {
+                word: Some(i),
+                ..self
+            }),
+            Word::Name => Some(self.with_name(i)),
+            _ => None,
+        }
+    }
+
+    // There are a card and a capture, each capture has its seen times, and --csv its file.
+    fn whole(self) -> Option<ScoreCall> {
+        match self.captures {
+            Captures::Paired if self.word.is_none() || self.csv.is_some() => Some(ScoreCall {
+                card: self.card?,
+                word: self.word,
+                csv: self.csv,
+            }),
+            _ => None,
+        }
     }
 }
 
-fn goes_on(capture: usize) -> Looked {
-    Looked {
-        capture: capture,
-        good: true,
-        outcome: Outcome::Done,
+// The call that the arguments make; none where they are too many or too few, or nothing asks for one.
+pub fn score_call(rt: &HostRuntime) -> Option<ScoreCall> {
+    let mut c = Partial::nothing();
+    for i in 2..arg_count(rt) {
+        c = c.with_argument(i, Word::at(rt, i))?;
+    }
+    c.whole()
+}
+
+impl ScoreCall {
+    // Whether an argument names a file that is read.
+    fn is_input(&self, i: usize) -> bool {
+        self.word != Some(i) && self.csv != Some(i)
+    }
+
+    // Calls `act` with the arguments of each capture and of its seen times, until it fails.
+    pub fn each_pair<F: FnMut(usize, usize) -> Result<(), Stop>>(
+        &self,
+        rt: &HostRuntime,
+        mut act: F,
+    ) -> Result<(), Stop>
+        requires { (state : F) (c i : _) → F.pre state c i }
+    {
+        let mut capture = None;
+        for i in 2..arg_count(rt) {
+            if i != self.card && self.is_input(i) {
+                capture = match capture {
+                    None => Some(i),
+                    Some(c) => {
+                        act(c, i)?;
+                        None
+                    }
+                };
+            }
+        }
+        Ok(())
+    }
+
+    // Opens each capture, and reads and checks each file of seen times, before anything is replayed.
+    pub fn look_at_all(&self, rt: &HostRuntime, slots: usize) -> Result<(), Stop> {
+        self.each_pair(rt, |capture, seen| look_at(rt, slots, capture, seen))
+    }
+
+    // Whether the rows would overwrite an input, by whatever names; if so, it is said.
+    pub fn overwrites_input(&self, rt: &HostRuntime) -> bool {
+        let Some(csv) = self.csv else {
+            return false;
+        };
+        let overwrites = (2..arg_count(rt)).any(|i| self.is_input(i) && name_one_file(rt, csv, i));
+        if overwrites {
+            name_file(rt, csv);
+            complain(
+                rt,
+                b"the file for the rows is one that is read: expected a file that is neither the card nor a capture nor seen times\n",
+            );
+        }
+        overwrites
     }
 }
 
-fn look_at_capture(rt: &HostRuntime, i: usize) -> Looked {
-    let Some(file) = open_file(rt, i) else {
-        return fails(Outcome::Unusable);
-    };
-    close_file(file);
-    goes_on(i)
-}
-
-fn look_at_seen(rt: &HostRuntime, i: usize, slots: usize) -> Looked {
-    let file = load_seen(rt, i, slots);
-    if file.good {
-        return goes_on(0);
-    }
-    let outcome = file.outcome;
-    fails(outcome)
-}
-
-fn look_at(rt: &HostRuntime, c: ScoreCall, l: Looked, slots: usize, i: usize) -> Looked {
-    if !l.good | !is_of_pair(c, i) {
-        return l;
-    }
-    if l.capture == 0 {
-        return look_at_capture(rt, i);
-    }
-    look_at_seen(rt, i, slots)
-}
-
-// Opens each capture, and reads and checks each file of seen times, before anything is replayed.
-pub fn look_at_all(rt: &HostRuntime, c: ScoreCall, slots: usize) -> Looked {
-    let n = arg_count(rt);
-    let mut l = goes_on(0);
-    let mut i: usize = 2;
-    while i < n {
-        l = look_at(rt, c, l, slots, i);
-        i += 1;
-    }
-    l
+fn look_at(rt: &HostRuntime, slots: usize, capture: usize, seen: usize) -> Result<(), Stop> {
+    open_file(rt, capture)?;
+    load_seen(rt, seen, slots)?;
+    Ok(())
 }

@@ -1,148 +1,63 @@
-// `otsnebura replay CARD CAPTURE`: after the set-up the capture is replayed, and the end is printed.
-use crate::answers::close_answers;
-use crate::options::Options;
-use cli_arguments::outcome::{Outcome, unless_error};
+// The end of `otsnebura replay CARD CAPTURE`.
+use crate::run::{Job, close_answers};
 use cli_capture::complaint::complain_capture;
-use cli_io::files::{after_printing, complain_read};
-use cli_io::printing::{Waiting, flush_out};
-use cli_io::trace_file::PIECE;
-use cli_lateness::table::{Table, print_table};
+use cli_io::failure::after_printing;
+use cli_io::input::Reading;
+use cli_io::stop::Stop;
+use cli_lateness::table::print_table;
 use cli_replay::ending::print_replay_ending;
-use cli_replay::session::{ReplaySession, begin_replay, fault_of};
-use cli_replay::turns::{ReplayTurn, first_replay_turn, replay_all};
-use cli_run::flow::{Way, end_progress};
-use cli_run::session::Session;
-use describe_capture::finding::is_fault;
-use readiness::Setup;
-
-// With the lateness report, where seen times are given and the capture could be read.
-fn with_report(
-    rt: &HostRuntime,
-    printed: &mut [u8],
-    w: Waiting,
-    slots: usize,
-    state: ReplaySession,
-    o: Options,
-    unread: bool,
-) -> Table {
-    if unread | (o.seen == 0) {
-        return Table {
-            refused: false,
-            out: w,
-        };
-    }
-    let moments = state.moments;
-    let times = o.times;
-    print_table(rt, printed, w, slots, moments, times)
-}
-
-// Whether totals are refused, and the error of a write, 0 where there is none.
-#[derive(Clone, Copy)]
-struct Closed {
-    refused: bool,
-    error: i32,
-}
-
-// The end is printed, and all that waits is written.
-fn close_printed(
-    rt: &HostRuntime,
-    setup: Setup,
-    t: ReplayTurn,
-    cells: &[u32],
-    printed: &mut [u8],
-    o: Options,
-    way: Way<'_>,
-) -> Closed {
-    let state = t.state;
-    let flow = t.flow;
-    let waits = flow.out;
-    let piece = flow.piece;
-    let quiet = way.quiet | (piece.error != 0);
-    let longer = print_replay_ending(rt, &mut *printed, waits, setup.slots, state, cells, quiet);
-    let table = with_report(
-        rt,
-        &mut *printed,
-        longer,
-        setup.slots,
-        state,
-        o,
-        piece.error != 0,
-    );
-    let waits_last = table.out;
-    let out = flush_out(rt, printed, waits_last);
-    Closed {
-        refused: table.refused,
-        error: after_printing(rt, out.error),
-    }
-}
+use cli_replay::session::{ReplaySession, fault_of};
+use cli_run::flow::Flow;
+use cli_run::memory::Memory;
+use readiness::Moments;
 
 // Whether a capture ends before its last byte, or is cut off.
 pub fn ends_early(state: ReplaySession) -> bool {
-    let session = state.session;
-    let fault = fault_of(state);
-    (session.number != 0) | is_fault(fault)
+    state.session.number != 0 || fault_of(state).is_some()
 }
 
-fn outcome_of_replay(state: ReplaySession, refused: bool) -> Outcome {
-    if ends_early(state) | refused {
-        return Outcome::Refused;
+// Prints the end, and the lateness report, where seen times are given and the capture could be read: whether its totals are refused.
+fn print_end(
+    seen: Option<Moments>,
+    memory: &Memory<'_>,
+    state: ReplaySession,
+    flow: &mut Flow<'_>,
+) -> bool {
+    let unread = matches!(flow.input.reading(), Reading::Failed(_));
+    print_replay_ending(&mut flow.printed, memory, state, flow.quiet || unread);
+    match seen {
+        Some(seen) if !unread => {
+            let slots = memory.card.setup.slots;
+            print_table(&mut flow.printed, slots, state.moments, seen)
+        }
+        _ => false,
     }
-    Outcome::Done
 }
 
 // Everything is written, and what went wrong is said.
-fn close_replay(
-    rt: &HostRuntime,
-    setup: Setup,
-    t: ReplayTurn,
-    cells: &[u32],
-    printed: &mut [u8],
-    answers: &[u8],
-    o: Options,
-    way: Way<'_>,
-) -> Outcome {
-    let state = t.state;
+// Kept: the seen times are those of the job, which a caller that matched it has in hand.
+pub fn close_replay(
+    job: Job<'_>,
+    seen: Option<Moments>,
+    memory: &Memory<'_>,
+    state: ReplaySession,
+    flow: &mut Flow<'_>,
+) -> Result<(), Stop> {
     let session = state.session;
-    let flow = t.flow;
-    let piece = flow.piece;
-    let kept = flow.kept;
-    end_progress(rt, way, session.offset);
-    let lost = close_answers(rt, o, way.answers, answers, kept);
-    let closed = close_printed(rt, setup, t, cells, printed, o, way);
-    if piece.error != 0 {
-        complain_read(rt, o.input, session.offset, piece.error);
-        return Outcome::Unusable;
+    let input = job.options.input;
+    flow.end_progress(job.rt, session.offset);
+    let kept = close_answers(job, flow);
+    let refused = print_end(seen, memory, state, flow);
+    let printed = after_printing(job.rt, flow.printed.flush());
+    if let Reading::Failed(failure) = flow.input.reading() {
+        failure.complain_read(job.rt, input, session.offset);
+        return Err(Stop::Unusable);
     }
-    complain_capture(rt, o.input, session.offset, fault_of(state));
-    let outcome = outcome_of_replay(state, closed.refused);
-    unless_error(lost, unless_error(closed.error, outcome))
-}
-
-// Replays the capture after a set-up.
-pub fn replay_session(
-    rt: &HostRuntime,
-    setup: Setup,
-    session: Session,
-    live: &mut [u32],
-    defaults: &[u32],
-    cells: &mut [u32],
-    o: Options,
-    way: Way<'_>,
-) -> Outcome {
-    let mut input = [0u8; PIECE];
-    let mut printed = [0u8; PIECE];
-    let mut answers = [0u8; PIECE];
-    let t = replay_all(
-        rt,
-        setup,
-        first_replay_turn(begin_replay(session)),
-        live,
-        defaults,
-        &mut *cells,
-        &mut input,
-        &mut printed,
-        &mut answers,
-        way,
-    );
-    close_replay(rt, setup, t, cells, &mut printed, &answers, o, way)
+    complain_capture(job.rt, input, session.offset, fault_of(state));
+    kept?;
+    printed?;
+    if refused || ends_early(state) {
+        return Err(Stop::Refused);
+    }
+    Ok(())
 }

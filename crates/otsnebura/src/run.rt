@@ -1,107 +1,107 @@
-// `otsnebura run CARD TRACE`: the card is set up, the trace is fed, and the end is printed. The way to a replay is the same.
-use crate::answers::close_answers;
+// `otsnebura run CARD TRACE` and `otsnebura replay CARD CAPTURE`: the card is set up, the file is fed, and the end is printed.
 use crate::options::Options;
-use crate::replaying::replay_session;
-use bits::at_most;
-use cli_arguments::outcome::{Outcome, unless_error};
+use crate::replaying::close_replay;
 use cli_card::refusal::complain_refusal;
-use cli_io::files::{after_printing, close_file, complain_read, overwrite_file};
-use cli_io::printing::{Sink, flush_out};
-use cli_io::trace_file::{PIECE, complain_fault};
+use cli_io::failure::{Failure, after_printing};
+use cli_io::files::{name_file, overwrite_file};
+use cli_io::input::Reading;
+use cli_io::sink::Sink;
+use cli_io::stop::Stop;
+use cli_replay::capture_source::CaptureSource;
+use cli_replay::session::begin_replay;
 use cli_run::ending::print_ending;
-use cli_run::flow::{Way, end_progress};
-use cli_run::session::{Session, begin, fault_of, fault_offset, words_of};
-use cli_run::turns::{Turn, first_turn, run_all};
-use readiness::Setup;
+use cli_run::flow::{Flow, Way};
+use cli_run::memory::{CELLS, Card, Memory, WORDS};
+use cli_run::session::Session;
+use cli_run::trace_source::TraceSource;
+use cli_run::turns::feed_all;
+use readiness::Moments;
 use std::fs::File;
 use std::io::IsTerminal;
 
-// The end is printed, and all that waits is written: the error of that, 0 where there is none.
-fn close_printed(
-    rt: &HostRuntime,
-    setup: Setup,
-    t: Turn,
-    cells: &[u32],
-    printed: &mut [u8],
-) -> i32 {
-    let session = t.session;
-    let flow = t.flow;
-    let waits = flow.out;
-    let longer = print_ending(rt, &mut *printed, waits, setup.slots, session, cells);
-    let out = flush_out(rt, printed, longer);
-    after_printing(rt, out.error)
+// What is fed: a trace, or a capture, perhaps with the times at which its slots were seen.
+#[derive(Clone, Copy)]
+pub enum Fed {
+    Trace,
+    Capture(Option<Moments>),
 }
 
-fn outcome_of_run(session: Session) -> Outcome {
-    let fault = fault_of(session);
-    if (session.number != 0) | (fault.count > 0) {
-        return Outcome::Refused;
+// What the command runs or replays, and with which options.
+#[derive(Clone, Copy)]
+pub struct Job<'a> {
+    pub rt: &'a HostRuntime,
+    pub options: Options,
+    pub fed: Fed,
+}
+
+// ---- The end
+
+// The answers that wait are written, and it is said where that fails, or where an earlier write did.
+pub fn close_answers(job: Job<'_>, flow: &mut Flow<'_>) -> Result<(), Failure> {
+    let written = flow.kept.flush();
+    if let (Err(failure), Some(answers)) = (written, job.options.answers) {
+        name_file(job.rt, answers);
+        failure.complain_write(job.rt);
     }
-    Outcome::Done
+    written
 }
 
-// What is wrong with the trace.
-fn complain_trace(rt: &HostRuntime, o: Options, session: Session) {
-    let fault = fault_of(session);
-    complain_fault(rt, o.input, fault_offset(session), fault);
+// What is wrong with the trace is said, if anything is.
+fn outcome_of_run(job: Job<'_>, session: &Session) -> Result<(), Stop> {
+    let fault = session.fault();
+    if let Some(fault) = fault {
+        fault.complain(job.rt, job.options.input, session.fault_offset());
+    }
+    if session.number != 0 || fault.is_some() {
+        return Err(Stop::Refused);
+    }
+    Ok(())
 }
 
 // Everything is written, and what went wrong is said.
 fn close_run(
-    rt: &HostRuntime,
-    setup: Setup,
-    t: Turn,
-    cells: &[u32],
-    printed: &mut [u8],
-    answers: &[u8],
-    o: Options,
-    way: Way<'_>,
-) -> Outcome {
-    let session = t.session;
-    let flow = t.flow;
-    let piece = flow.piece;
-    let kept = flow.kept;
-    end_progress(rt, way, session.offset);
-    let lost = close_answers(rt, o, way.answers, answers, kept);
-    let unprinted = close_printed(rt, setup, t, cells, printed);
-    if piece.error != 0 {
-        complain_read(rt, o.input, session.offset, piece.error);
-        return Outcome::Unusable;
+    job: Job<'_>,
+    memory: &Memory<'_>,
+    session: &Session,
+    flow: &mut Flow<'_>,
+) -> Result<(), Stop> {
+    flow.end_progress(job.rt, session.offset);
+    let kept = close_answers(job, flow);
+    print_ending(&mut flow.printed, memory, session);
+    let printed = after_printing(job.rt, flow.printed.flush());
+    if let Reading::Failed(failure) = flow.input.reading() {
+        failure.complain_read(job.rt, job.options.input, session.offset);
+        return Err(Stop::Unusable);
     }
-    complain_trace(rt, o, session);
-    unless_error(lost, unless_error(unprinted, outcome_of_run(session)))
+    let outcome = outcome_of_run(job, session);
+    kept?;
+    printed?;
+    outcome
 }
 
-// Runs the trace after a set-up, or replays the capture.
+// ---- Feeding
+
+// Feeds the trace after a set-up, or replays the capture.
 fn run_session(
-    rt: &HostRuntime,
-    setup: Setup,
+    job: Job<'_>,
+    memory: &mut Memory<'_>,
     session: Session,
-    live: &mut [u32],
-    defaults: &[u32],
-    cells: &mut [u32],
-    o: Options,
     way: Way<'_>,
-) -> Outcome {
-    if o.capture {
-        return replay_session(rt, setup, session, live, defaults, cells, o, way);
+) -> Result<(), Stop> {
+    let rt = job.rt;
+    let mut flow = Flow::new(rt, way);
+    match job.fed {
+        Fed::Trace => {
+            let mut trace = TraceSource::begin(session);
+            feed_all(rt, &mut trace, &mut *memory, &mut flow);
+            close_run(job, memory, &trace.session, &mut flow)
+        }
+        Fed::Capture(seen) => {
+            let mut capture = CaptureSource::begin(begin_replay(session), way.quiet);
+            feed_all(rt, &mut capture, &mut *memory, &mut flow);
+            close_replay(job, seen, memory, capture.state, &mut flow)
+        }
     }
-    let mut input = [0u8; PIECE];
-    let mut printed = [0u8; PIECE];
-    let mut answers = [0u8; PIECE];
-    let t = run_all(
-        rt,
-        setup,
-        first_turn(session),
-        live,
-        defaults,
-        &mut *cells,
-        &mut input,
-        &mut printed,
-        &mut answers,
-        way,
-    );
-    close_run(rt, setup, t, cells, &mut printed, &answers, o, way)
 }
 
 // ---- Where what is fed comes from and the answers go
@@ -109,104 +109,37 @@ fn run_session(
 // Progress is for a terminal that shows no lines of records.
 fn shows_progress(rt: &HostRuntime, quiet: bool) -> bool {
     let out = rt.stdout().is_terminal();
-    rt.stderr().is_terminal() & (quiet | !out)
+    rt.stderr().is_terminal() && (quiet || !out)
 }
 
-fn way_of<'a>(rt: &HostRuntime, o: Options, input: &'a File, answers: Sink<'a>) -> Way<'a> {
+fn way_of<'a>(job: Job<'_>, input: &'a File, answers: Sink<'a>) -> Way<'a> {
+    let quiet = job.options.quiet;
     Way {
-        input: input,
-        answers: answers,
-        quiet: o.quiet,
-        progress: shows_progress(rt, o.quiet),
-    }
-}
-
-// Runs it with answers to a file where one is named, which is opened here, after the set-up.
-fn run_answered(
-    rt: &HostRuntime,
-    setup: Setup,
-    session: Session,
-    live: &mut [u32],
-    defaults: &[u32],
-    cells: &mut [u32],
-    o: Options,
-    input: &File,
-) -> Outcome {
-    if o.answers == 0 {
-        return run_session(
-            rt,
-            setup,
-            session,
-            live,
-            defaults,
-            cells,
-            o,
-            way_of(rt, o, input, Sink::Nowhere),
-        );
-    }
-    let Some(answers) = overwrite_file(rt, o.answers) else {
-        return Outcome::Unusable;
-    };
-    let way = way_of(rt, o, input, Sink::Kept(&answers));
-    let outcome = run_session(rt, setup, session, live, defaults, cells, o, way);
-    close_file(answers);
-    outcome
-}
-
-// ---- Set-up
-
-// Sets the card up over what is lent, and runs what is fed.
-fn run_lent(
-    rt: &HostRuntime,
-    setup: Setup,
-    live: &mut [u32],
-    defaults: &[u32],
-    cells: &mut [u32],
-    o: Options,
-    input: &File,
-) -> Outcome {
-    let session = begin(setup, &mut *live, defaults, &mut *cells);
-    if session.number != 0 {
-        return complain_refusal(rt, o.card, setup, session.number, defaults);
-    }
-    run_answered(rt, setup, session, live, defaults, cells, o, input)
-}
-
-// Lends the first words and cells.
-fn lend(
-    rt: &HostRuntime,
-    setup: Setup,
-    queue: usize,
-    live: &mut [u32],
-    defaults: &[u32],
-    cells: &mut [u32],
-    o: Options,
-    input: &File,
-) -> Outcome {
-    let l = at_most(words_of(setup.slots), live.len());
-    let d = at_most(words_of(setup.slots), defaults.len());
-    let c = at_most(queue, cells.len());
-    run_lent(
-        rt,
-        setup,
-        &mut live[0..l],
-        &defaults[0..d],
-        &mut cells[0..c],
-        o,
         input,
-    )
+        answers,
+        quiet,
+        progress: shows_progress(job.rt, quiet),
+    }
 }
 
-// Runs an open trace on a card, or replays a capture.
-pub fn run(
-    rt: &HostRuntime,
-    setup: Setup,
-    queue: usize,
-    defaults: &[u32],
-    o: Options,
-    input: &File,
-) -> Outcome {
-    let mut live = [0u32; 2048];
-    let mut cells = [0u32; 4095];
-    lend(rt, setup, queue, &mut live, defaults, &mut cells, o, input)
+// Sets the card up, and feeds an open file, with answers to a file where one is named, which is opened after the set-up.
+pub fn run(job: Job<'_>, card: &Card, input: &File) -> Result<(), Stop> {
+    let mut live = [0u32; WORDS];
+    let mut cells = [0u32; CELLS];
+    let mut memory = Memory::over(card, &mut live, &mut cells);
+    let session = match memory.set_up() {
+        Ok(session) => session,
+        Err(number) => return Err(complain_refusal(job.rt, job.options.card, card, number)),
+    };
+    match job.options.answers {
+        None => {
+            let way = way_of(job, input, Sink::Nowhere);
+            run_session(job, &mut memory, session, way)
+        }
+        Some(i) => {
+            let answers = overwrite_file(job.rt, i)?;
+            let way = way_of(job, input, Sink::Kept(&answers));
+            run_session(job, &mut memory, session, way)
+        }
+    }
 }

@@ -1,31 +1,29 @@
 // `otsnebura score CARD CAPTURE SEEN ..`: each capture is replayed from set-up on, and its differences are collected.
-use crate::pairs::{ScoreCall, is_of_pair, is_score, look_at_all, overwrites_input, score_call};
+use crate::pairs::{ScoreCall, score_call};
 use crate::replaying::ends_early;
-use bits::at_most;
-use cli_arguments::arguments::{arg_count, bad_usage};
-use cli_arguments::outcome::{Outcome, unless_error};
-use cli_card::card_file::{Loaded, load_card};
+use cli_arguments::arguments::bad_usage;
+use cli_card::card_file::load_card;
 use cli_card::refusal::complain_refusal;
 use cli_io::args::arg;
-use cli_io::files::{
-    PATH, after_printing, close_file, complain_read, complain_write, name_file, open_file,
-    overwrite_file,
-};
-use cli_io::printing::{Sink, Waiting, end_line, flush, flush_out, make_room, nothing_waits};
-use cli_io::trace_file::PIECE;
-use cli_lateness::rows::{Outputs, begin_rows, put_capture};
+use cli_io::failure::{Failure, after_printing};
+use cli_io::files::{PATH, name_file, open_file, overwrite_file};
+use cli_io::input::Reading;
+use cli_io::output::Output;
+use cli_io::sink::Sink;
+use cli_io::stop::Stop;
+use cli_lateness::rows::Outputs;
 use cli_lateness::seen_file::load_seen;
 use cli_lateness::table::print_totals;
+use cli_replay::capture_source::CaptureSource;
 use cli_replay::session::{ReplaySession, begin_replay, fault_of};
-use cli_replay::turns::{ReplayTurn, first_replay_turn, replay_all};
-use cli_run::flow::Way;
-use cli_run::session::{Session, begin, refusal_of, words_of};
+use cli_run::flow::{Flow, Way};
+use cli_run::memory::{CELLS, Card, Memory, WORDS};
+use cli_run::turns::feed_all;
 use describe_capture::fault_words::put_fault_message;
 use describe_capture::finding::fault_byte;
-use readiness::{Moments, Setup};
+use readiness::Moments;
 use score::{Collected, collect, nothing_collected, total};
 use std::fs::File;
-use text_line::text::put_text;
 
 // More than 9,000 differences have no totals, and one more shows it.
 const MOST: usize = 9001;
@@ -33,407 +31,197 @@ const MOST: usize = 9001;
 // Room for a line after a name of 4096 bytes.
 const ROOM: usize = 8192;
 
-// How far the captures are: the one whose seen times come next, 0 where a capture does; what was collected; what waits; whether a capture
-// ended early; and whether a file can't be read.
+// What is scored, on which card.
 #[derive(Clone, Copy)]
-struct Score<'a> {
-    capture: usize,
-    collected: Collected,
-    outputs: Outputs<'a>,
-    early: bool,
-    unread: bool,
+struct Job<'a> {
+    rt: &'a HostRuntime,
+    call: ScoreCall,
+    card: &'a Card,
 }
 
 // ---- A replay
 
-// Replays an open capture after a set-up.
-fn replay_begun(
-    rt: &HostRuntime,
-    setup: Setup,
-    session: Session,
-    live: &mut [u32],
-    defaults: &[u32],
-    cells: &mut [u32],
-    file: &File,
-) -> ReplayTurn {
-    let mut input = [0u8; PIECE];
-    let mut lines = [0u8; 16];
-    let mut answers = [0u8; PIECE];
-    replay_all(
+// Replays the open capture that argument i names on the card, from set-up on.
+fn replay_open(job: Job<'_>, i: usize, file: &File) -> Result<ReplaySession, Stop> {
+    let rt = job.rt;
+    let card = job.card;
+    let mut live = [0u32; WORDS];
+    let mut cells = [0u32; CELLS];
+    let mut memory = Memory::over(card, &mut live, &mut cells);
+    let session = match memory.set_up() {
+        Ok(session) => session,
+        Err(number) => return Err(complain_refusal(rt, job.call.card, card, number)),
+    };
+    let mut flow = Flow::new(
         rt,
-        setup,
-        first_replay_turn(begin_replay(session)),
-        live,
-        defaults,
-        cells,
-        &mut input,
-        &mut lines,
-        &mut answers,
         Way {
             input: file,
             answers: Sink::Nowhere,
             quiet: true,
             progress: false,
         },
-    )
+    );
+    let mut capture = CaptureSource::begin(begin_replay(session), true);
+    feed_all(rt, &mut capture, &mut memory, &mut flow);
+    let state = capture.state;
+    match flow.input.reading() {
+        Reading::Failed(failure) => {
+            failure.complain_read(rt, i, state.session.offset);
+            Err(Stop::Unusable)
+        }
+        _ => Ok(state),
+    }
 }
 
-fn replay_lent(
-    rt: &HostRuntime,
-    setup: Setup,
-    live: &mut [u32],
-    defaults: &[u32],
-    cells: &mut [u32],
-    file: &File,
-) -> ReplayTurn {
-    let session = begin(setup, &mut *live, defaults, &mut *cells);
-    replay_begun(rt, setup, session, live, defaults, cells, file)
-}
+// ---- The captures and their seen times
 
-fn lend(
-    rt: &HostRuntime,
-    setup: Setup,
-    queue: usize,
-    live: &mut [u32],
-    defaults: &[u32],
-    cells: &mut [u32],
-    file: &File,
-) -> ReplayTurn {
-    let l = at_most(words_of(setup.slots), live.len());
-    let d = at_most(words_of(setup.slots), defaults.len());
-    let c = at_most(queue, cells.len());
-    replay_lent(
-        rt,
-        setup,
-        &mut live[0..l],
-        &defaults[0..d],
-        &mut cells[0..c],
-        file,
-    )
+// How many slots the card has; the differences that were collected; the lines and rows that wait to be written; and whether a capture
+// ended early.
+#[derive(Drop)]
+struct Score<'a> {
+    slots: usize,
+    values: [i64; MOST],
+    of: [usize; MOST],
+    collected: Collected,
+    outputs: Outputs<'a>,
+    early: bool,
 }
-
-// Replays an open capture on the card, from set-up on.
-fn replay_open(
-    rt: &HostRuntime,
-    setup: Setup,
-    queue: usize,
-    defaults: &[u32],
-    file: &File,
-) -> ReplayTurn {
-    let mut live = [0u32; 2048];
-    let mut cells = [0u32; 4095];
-    lend(rt, setup, queue, &mut live, defaults, &mut cells, file)
-}
-
-// ---- A capture and its seen times
 
 // The line of a capture that ends early: number and place.
-fn print_early(
-    rt: &HostRuntime,
-    printed: &mut [u8],
-    w: Waiting,
-    name: &[u8],
-    state: ReplaySession,
-) -> Waiting {
-    if !ends_early(state) {
-        return w;
-    }
-    let session = state.session;
+fn print_early(out: &mut Output<'_>, name: &[u8], state: ReplaySession) {
     let fault = fault_of(state);
-    let room = make_room(Sink::Output(rt), &*printed, w, ROOM);
-    let a = put_text(&mut *printed, room.count, name);
-    let b = put_text(&mut *printed, a, b": ends early: ");
-    let c = put_fault_message(&mut *printed, b, fault_byte(session.offset, fault), fault);
-    end_line(rt, printed, room, c)
+    out.make_room(ROOM);
+    out.page.put_text(name);
+    out.page.put_text(b": ends early: ");
+    let byte = fault_byte(state.session.offset, fault);
+    put_fault_message(&mut out.page, byte, fault);
+    out.end_line();
 }
 
-// What a replayed capture adds.
-fn with_replayed<'a>(
-    rt: &HostRuntime,
-    slots: usize,
-    s: Score<'a>,
-    state: ReplaySession,
-    seen: Moments,
-    name: &[u8],
-    values: &mut [i64],
-    of: &mut [usize],
-    printed: &mut [u8],
-    rows: &mut [u8],
-) -> Score<'a> {
-    let bench = state.moments;
-    let before = s.collected;
-    let mut outputs = s.outputs;
-    let waits = outputs.out;
-    let out = print_early(rt, &mut *printed, waits, name, state);
-    outputs.out = out;
-    Score {
-        capture: 0,
-        collected: collect(values, of, before, slots, bench, seen),
-        outputs: put_capture(rt, printed, rows, outputs, name, slots, bench, seen),
-        early: s.early | ends_early(state),
-        unread: s.unread,
+impl<'a> Score<'a> {
+    fn new(job: Job<'a>, to: Sink<'a>) -> Score<'a> {
+        let mut outputs = Outputs {
+            printed: Output::new(Sink::Output(job.rt)),
+            rows: Output::new(to),
+        };
+        outputs.begin_rows();
+        Score {
+            slots: job.card.setup.slots,
+            values: [0; MOST],
+            of: [0; MOST],
+            collected: nothing_collected(),
+            outputs,
+            early: false,
+        }
     }
-}
 
-fn unreadable<'a>(s: Score<'a>) -> Score<'a> {
-    let mut t = s;
-    t.unread = true;
-    t
-}
-
-// The same by the argument of the capture, whose name stands in the lines; nothing where reading it failed.
-fn with_turn<'a>(
-    rt: &HostRuntime,
-    slots: usize,
-    s: Score<'a>,
-    t: ReplayTurn,
-    seen: Moments,
-    values: &mut [i64],
-    of: &mut [usize],
-    printed: &mut [u8],
-    rows: &mut [u8],
-) -> Score<'a> {
-    let state = t.state;
-    let session = state.session;
-    let flow = t.flow;
-    let piece = flow.piece;
-    if piece.error != 0 {
-        complain_read(rt, s.capture, session.offset, piece.error);
-        return unreadable(s);
+    // What a replayed capture adds.
+    fn add_replayed(&mut self, state: ReplaySession, seen: Moments, name: &[u8]) {
+        let slots = self.slots;
+        if ends_early(state) {
+            print_early(&mut self.outputs.printed, name, state);
+            self.early = true;
+        }
+        let bench = state.moments;
+        let before = self.collected;
+        self.collected = collect(&mut self.values, &mut self.of, before, slots, bench, seen);
+        self.outputs.put_capture(name, slots, bench, seen);
     }
-    let mut name = [0u8; PATH];
-    let n = arg(rt, s.capture, &mut name);
-    with_replayed(
-        rt,
-        slots,
-        s,
-        state,
-        seen,
-        &name[..n],
-        values,
-        of,
-        printed,
-        rows,
-    )
-}
 
-// Argument i names the seen times of the capture.
-fn with_pair<'a>(
-    rt: &HostRuntime,
-    card: Loaded,
-    defaults: &[u32],
-    s: Score<'a>,
-    i: usize,
-    values: &mut [i64],
-    of: &mut [usize],
-    printed: &mut [u8],
-    rows: &mut [u8],
-) -> Score<'a> {
-    let setup = card.setup;
-    let file = load_seen(rt, i, setup.slots);
-    let seen = file.times;
-    let Some(capture) = open_file(rt, s.capture) else {
-        return unreadable(s);
-    };
-    if !file.good {
-        return unreadable(s);
+    // The same by the arguments of the capture, whose name stands in the lines, and of its seen times; nothing where one can't be read.
+    fn add_pair(&mut self, job: Job<'_>, capture: usize, seen: usize) -> Result<(), Stop> {
+        let rt = job.rt;
+        let loaded = load_seen(rt, seen, job.card.setup.slots);
+        let file = open_file(rt, capture)?;
+        let times = loaded?;
+        let state = replay_open(job, capture, &file)?;
+        let mut room = [0u8; PATH];
+        let name = arg(rt, capture, &mut room);
+        self.add_replayed(state, times, name);
+        Ok(())
     }
-    let t = replay_open(rt, setup, card.queue, defaults, &capture);
-    close_file(capture);
-    with_turn(rt, setup.slots, s, t, seen, values, of, printed, rows)
-}
 
-// The next argument: a capture, or the seen times of the one before.
-fn with_next<'a>(
-    rt: &HostRuntime,
-    call: ScoreCall,
-    card: Loaded,
-    defaults: &[u32],
-    s: Score<'a>,
-    i: usize,
-    values: &mut [i64],
-    of: &mut [usize],
-    printed: &mut [u8],
-    rows: &mut [u8],
-) -> Score<'a> {
-    if s.unread | !is_of_pair(call, i) {
-        return s;
+    // The rows that wait are written, and it is said where that fails, or where an earlier write did.
+    fn close_rows(&mut self, job: Job<'_>) -> Result<(), Failure> {
+        let written = self.outputs.rows.flush();
+        if let (Err(failure), Some(csv)) = (written, job.call.csv) {
+            name_file(job.rt, csv);
+            failure.complain_write(job.rt);
+        }
+        written
     }
-    if s.capture == 0 {
-        let mut t = s;
-        t.capture = i;
-        return t;
-    }
-    with_pair(rt, card, defaults, s, i, values, of, printed, rows)
-}
 
-fn with_all<'a>(
-    rt: &HostRuntime,
-    call: ScoreCall,
-    card: Loaded,
-    defaults: &[u32],
-    first: Score<'a>,
-    values: &mut [i64],
-    of: &mut [usize],
-    printed: &mut [u8],
-    rows: &mut [u8],
-) -> Score<'a> {
-    let n = arg_count(rt);
-    let mut s = first;
-    let mut i: usize = 2;
-    while i < n {
-        s = with_next(
-            rt,
-            call,
-            card,
-            defaults,
-            s,
-            i,
-            &mut *values,
-            &mut *of,
-            &mut *printed,
-            &mut *rows,
+    // The totals are printed.
+    fn close_printed(&mut self, rt: &HostRuntime) -> Result<(), Failure> {
+        let mut list = [0i64; MOST];
+        let collected = self.collected;
+        print_totals(
+            &mut self.outputs.printed,
+            &self.values,
+            &self.of,
+            collected,
+            &mut list,
         );
-        i += 1;
+        after_printing(rt, self.outputs.printed.flush())
     }
-    s
-}
 
-// ---- The end
-
-fn first_score<'a>(to: Sink<'a>, rows: &mut [u8]) -> Score<'a> {
-    let outputs = begin_rows(
-        rows,
-        Outputs {
-            out: nothing_waits(),
-            rows: nothing_waits(),
-            to: to,
-        },
-    );
-    Score {
-        capture: 0,
-        collected: nothing_collected(),
-        outputs: outputs,
-        early: false,
-        unread: false,
+    fn outcome(&self) -> Result<(), Stop> {
+        if self.early || total(&self.values, self.collected).number != 0 {
+            return Err(Stop::Refused);
+        }
+        Ok(())
     }
-}
-
-// The rows that wait are written: the error of that, or of an earlier write, 0 where there is none.
-fn close_rows(rt: &HostRuntime, call: ScoreCall, to: Sink<'_>, rows: &[u8], w: Waiting) -> i32 {
-    let all = flush(to, rows, w);
-    if all.error != 0 {
-        name_file(rt, call.csv);
-        complain_write(rt, all.error);
-    }
-    all.error
-}
-
-// The totals are printed: the error of that, 0 where there is none.
-fn close_printed(
-    rt: &HostRuntime,
-    printed: &mut [u8],
-    s: Score<'_>,
-    values: &[i64],
-    of: &[usize],
-) -> i32 {
-    let mut list = [0i64; MOST];
-    let c = s.collected;
-    let outputs = s.outputs;
-    let waits = outputs.out;
-    let longer = print_totals(rt, &mut *printed, waits, values, of, c, &mut list);
-    let out = flush_out(rt, printed, longer);
-    after_printing(rt, out.error)
-}
-
-fn outcome_of(s: Score<'_>, values: &[i64]) -> Outcome {
-    let c = s.collected;
-    let r = total(values, c);
-    if s.early | (r.number != 0) {
-        return Outcome::Refused;
-    }
-    Outcome::Done
 }
 
 // Scores the captures, with rows to a file, or nowhere.
-fn score_to(
-    rt: &HostRuntime,
-    call: ScoreCall,
-    card: Loaded,
-    defaults: &[u32],
-    to: Sink<'_>,
-) -> Outcome {
-    let mut values = [0i64; MOST];
-    let mut of = [0usize; MOST];
-    let mut printed = [0u8; PIECE];
-    let mut rows = [0u8; PIECE];
-    let first = first_score(to, &mut rows);
-    let s = with_all(
-        rt,
-        call,
-        card,
-        defaults,
-        first,
-        &mut values,
-        &mut of,
-        &mut printed,
-        &mut rows,
-    );
-    let outputs = s.outputs;
-    let kept = outputs.rows;
-    let lost = close_rows(rt, call, to, &rows, kept);
-    if s.unread {
-        let waits = outputs.out;
-        flush_out(rt, &printed, waits);
-        return Outcome::Unusable;
+fn score_to(job: Job<'_>, to: Sink<'_>) -> Result<(), Stop> {
+    let rt = job.rt;
+    let mut score = Score::new(job, to);
+    let read = job
+        .call
+        .each_pair(rt, |capture, seen| score.add_pair(job, capture, seen));
+    let kept = score.close_rows(job);
+    if read.is_err() {
+        let _ = score.outputs.printed.flush();
+        return Err(Stop::Unusable);
     }
-    let unprinted = close_printed(rt, &mut printed, s, &values, &of);
-    unless_error(lost, unless_error(unprinted, outcome_of(s, &values)))
+    let printed = score.close_printed(rt);
+    kept?;
+    printed?;
+    score.outcome()
 }
 
 // ---- The command
 
 // The file of rows is opened once everything else could be.
-fn score_opened(rt: &HostRuntime, call: ScoreCall, card: Loaded, defaults: &[u32]) -> Outcome {
-    if call.csv == 0 {
-        return score_to(rt, call, card, defaults, Sink::Nowhere);
+fn score_opened(job: Job<'_>) -> Result<(), Stop> {
+    match job.call.csv {
+        None => score_to(job, Sink::Nowhere),
+        Some(i) => {
+            let rows = overwrite_file(job.rt, i)?;
+            score_to(job, Sink::Kept(&rows))
+        }
     }
-    let Some(rows) = overwrite_file(rt, call.csv) else {
-        return Outcome::Unusable;
-    };
-    let outcome = score_to(rt, call, card, defaults, Sink::Kept(&rows));
-    close_file(rows);
-    outcome
 }
 
-fn score_card(rt: &HostRuntime, call: ScoreCall, card: Loaded, defaults: &[u32]) -> Outcome {
-    let setup = card.setup;
-    let number = refusal_of(setup, card.queue, defaults);
-    if number != 0 {
-        return complain_refusal(rt, call.card, setup, number, defaults);
-    }
-    let looked = look_at_all(rt, call, setup.slots);
-    if looked.good {
-        return score_opened(rt, call, card, defaults);
-    }
-    looked.outcome
-}
-
-pub fn score_command(rt: &HostRuntime) -> Outcome {
-    let call = score_call(rt);
-    if !is_score(call) {
-        return bad_usage(
+pub fn score_command(rt: &HostRuntime) -> Result<(), Stop> {
+    let Some(call) = score_call(rt) else {
+        return Err(bad_usage(
             rt,
             b"score wants CARD and then CAPTURE and SEEN, once or more, and takes --csv FILE",
-        );
+        ));
+    };
+    if call.overwrites_input(rt) {
+        return Err(Stop::Unusable);
     }
-    if overwrites_input(rt, call) {
-        return Outcome::Unusable;
+    let card = load_card(rt, call.card)?;
+    if let Some(number) = card.refusal() {
+        return Err(complain_refusal(rt, call.card, &card, number));
     }
-    let mut words = [0u32; 2048];
-    let loaded = load_card(rt, call.card, &mut words);
-    if loaded.good {
-        return score_card(rt, call, loaded, &words);
-    }
-    loaded.outcome
+    call.look_at_all(rt, card.setup.slots)?;
+    score_opened(Job {
+        rt,
+        call,
+        card: &card,
+    })
 }

@@ -1,9 +1,0 @@
--- The loop counts to 32.
-use Rattle.std.proofs.Common.{◌≤◌, ◌-◌}
-use Rattle.cli_card.proofs.refusal.bad_slot.Given as goal
-
-abbrev pub invariant-loop-i : goal.invariant-loop-i
-invariant-loop-i l = l.i ≤ 32
-
-abbrev pub decreases-loop-i : goal.decreases-loop-i
-decreases-loop-i l = 32 - l.i

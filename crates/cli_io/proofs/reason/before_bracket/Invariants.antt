@@ -1,9 +1,0 @@
--- The loop goes down from the end of the text.
-use Rattle.std.proofs.Common.{◌≤◌, length}
-use Rattle.cli_io.proofs.reason.before_bracket.Given as goal
-
-abbrev pub invariant-loop-i : goal.invariant-loop-i
-invariant-loop-i l = l.i ≤ length l.text
-
-abbrev pub decreases-loop-i : goal.decreases-loop-i
-decreases-loop-i l = l.i

@@ -1,0 +1,89 @@
+// Why a read or a write failed.
+ghost use Rattle.std.specs.Prelude.{◌≡◌};
+
+use crate::files::{complain, complain_line, name_file};
+use std::io;
+use text_line::Page;
+
+// What the system's error means.
+#[derive(Clone, Copy, PartialEq, Eq)]
+pub enum Failure {
+    Interrupted,
+    Device,
+    NotOpen,
+    Full,
+    TooLarge,
+    Directory,
+    Other,
+}
+
+// The numbers of the system's errors.
+const EINTR: i32 = 4;
+
+const EIO: i32 = 5;
+
+const EBADF: i32 = 9;
+
+const EISDIR: i32 = 21;
+
+const EFBIG: i32 = 27;
+
+const ENOSPC: i32 = 28;
+
+// An error that has no number is one of input or output.
+impl From<io::Error> for Failure {
+    fn from(e: io::Error) -> Self {
+        match e.raw_os_error() {
+            Some(EINTR) => Failure::Interrupted,
+            Some(EBADF) => Failure::NotOpen,
+            Some(ENOSPC) => Failure::Full,
+            Some(EFBIG) => Failure::TooLarge,
+            Some(EISDIR) => Failure::Directory,
+            Some(error) if error > 0 && error != EIO => Failure::Other,
+            _ => Failure::Device,
+        }
+    }
+}
+
+impl Failure {
+    fn words(self) -> &'static [u8] {
+        match self {
+            Failure::Interrupted => b"interrupted",
+            Failure::Device => b"input/output error",
+            Failure::NotOpen => b"not open",
+            Failure::Full => b"no space left on the device",
+            Failure::TooLarge => b"the file would be too large",
+            Failure::Directory => b"a directory",
+            Failure::Other => b"refused by the system",
+        }
+    }
+
+    // Says that reading the file of argument i failed at this byte.
+    pub fn complain_read(self, rt: &HostRuntime, i: usize, offset: u64) {
+        let mut line = Page::new();
+        name_file(rt, i);
+        line.put_named(b"byte ", offset);
+        line.put_text(b": can't be read further: ");
+        line.put_text(self.words());
+        complain_line(rt, &line);
+    }
+
+    // Says that writing failed.
+    pub fn complain_write(self, rt: &HostRuntime) {
+        let mut line = Page::new();
+        line.put_text(b"can't be written: ");
+        line.put_text(self.words());
+        complain_line(rt, &line);
+    }
+}
+
+// The error of a write to standard output, if there was one, is said and given back.
+pub fn after_printing(rt: &HostRuntime, written: Result<(), Failure>) -> Result<(), Failure>
+    ensures { result ≡ written }
+{
+    if let Err(failure) = written {
+        complain(rt, b"standard output: ");
+        failure.complain_write(rt);
+    }
+    written
+}

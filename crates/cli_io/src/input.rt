@@ -1,0 +1,81 @@
+// A file that is read in pieces.
+ghost use Rattle.std.specs.Prelude.{◌≡◌, ◌≤◌, ◌+◌, min};
+
+use crate::failure::Failure;
+use std::fs::File;
+use std::io::Read;
+
+// How much is read at once.
+pub const PIECE: usize = 65536;
+
+// Whether there may be more to read.
+#[derive(Clone, Copy, PartialEq, Eq)]
+pub enum Reading {
+    Goes,
+    Ended,
+    Failed(Failure),
+}
+
+// A file, and what was read of it and not yet taken: its bytes from `from` up to `to`.
+// Kept: `from` and `to` stand beside the bytes, since a Vec needs a heap.
+#[derive(Drop)]
+pub struct Input<'a> {
+    file: &'a File,
+    bytes: [u8; PIECE],
+    pub from: usize,
+    pub to: usize,
+    reading: Reading,
+    ghost order: { from ≤ to },
+    ghost within: { to ≤ 65536 },
+}
+
+impl<'a> Input<'a> {
+    pub fn new(file: &'a File) -> Self
+        ensures from_value { result.from ≡ 0 }
+        ensures to_value { result.to ≡ 0 }
+    {
+        Input {
+            file,
+            bytes: [0u8; PIECE],
+            from: 0,
+            to: 0,
+            reading: Reading::Goes,
+        }
+    }
+
+    // What was read and not yet taken.
+    pub fn unread(&self) -> &[u8] {
+        &self.bytes[self.from..self.to]
+    }
+
+    // So many bytes more are taken, or all.
+    pub fn pass(&mut self, n: usize)
+        ensures { self.new.from ≡ min (self.old.from + n) self.old.to }
+    {
+        self.from += n.min(self.to - self.from);
+    }
+
+    // Reads the next piece, which stands from the first byte on.
+    pub fn read_on(&mut self)
+        ensures { self.new.from ≡ 0 }
+    {
+        let mut file = self.file;
+        self.from = 0;
+        self.to = 0;
+        match file.read(&mut self.bytes) {
+            Ok(n) => {
+                self.to = n;
+                if n == 0 {
+                    self.reading = Reading::Ended;
+                }
+            }
+            Err(e) => self.reading = Reading::Failed(Failure::from(e)),
+        }
+    }
+
+    pub fn reading(&self) -> Reading
+        ensures { result ≡ self.now.reading }
+    {
+        self.reading
+    }
+}

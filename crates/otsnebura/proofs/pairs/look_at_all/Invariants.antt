@@ -1,9 +1,0 @@
--- The loop counts to the number of arguments.
-use Rattle.std.proofs.Common.{◌≤◌, ◌-◌}
-use Rattle.otsnebura.proofs.pairs.look_at_all.Given as goal
-
-abbrev pub invariant-loop-i : goal.invariant-loop-i
-invariant-loop-i l = 2 ≤ l.i
-
-abbrev pub decreases-loop-i : goal.decreases-loop-i
-decreases-loop-i l = l.n - l.i

@@ -57,6 +57,7 @@ fn phase_route(clock: Nanos, phase: Phase, visibility: bool, is_read: bool, q: R
     }
 }
 
+// Kept: six parameters, which `route_of` in records takes one by one.
 // Order: 20, 21, 24, 18, then 16 or 17; the same for every kind. Access is for a slot and a word that there are.
 #[tactic(auto, unfolding(records::specs::Route::route_of))]
 pub fn route_of(

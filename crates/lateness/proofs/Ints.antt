@@ -45,9 +45,6 @@ told z h = read z (record { sfits = h })
 pub read_test : (p : ℤ → Bool) (z : ℤ) (b : Bool) → SFits w64 z → p (to_z w64 (of_z w64 z)) ≡ b → p z ≡ b
 read_test p z b f h = ap p (sym (read z f)) ∙ h
 
-pub read_le : (z y : ℤ) (b : Bool) → SFits w64 z → SFits w64 y → le_z (to_z w64 (of_z w64 z)) (to_z w64 (of_z w64 y)) ≡ b → le_z z y ≡ b
-read_le z y b f g h = ap (λ (x : ℤ). le_z x y) (sym (read z f)) ∙ ap (λ (x : ℤ). le_z (to_z w64 (of_z w64 z)) x) (sym (read y g)) ∙ h
-
 -- the bits are 0 exactly if the number is
 pub zero_bits : (z : ℤ) → SFits w64 z → of_z w64 z ≡ 0 → eqb (nat_abs z) 0 ≡ true
 zero_bits (pos n) f e = eq-eqb n 0 e

@@ -1,16 +1,42 @@
 -- The least and the greatest are in the list, and bound it.
-use mathlib.Core.Path.{◌≡◌, refl, sym, ◌∙◌}
-use mathlib.Core.Bool.{true}
+use Rattle.std.specs.Int.{int_min, int_max}
+use mathlib.Core.Path.{◌≡◌, refl, sym, ap, ◌∙◌}
+use mathlib.Core.Bool.{Bool, true, false, cond}
 use mathlib.Core.Logic.{◌⊎◌, ⊎_elim}
 use mathlib.Core.List.{List, [], ◌∷◌}
 use Prim.Native.Nat.{ℕ, zero, suc, ◌<◌}
 use native.Mathlib.Omega.{arith}
 use lib.ListN.{length, get_or}
-use lib.IntN.{ℤ, pos}
-use lib.Signed.{le_z}
+use lib.Dec.{ltb, leb}
+use lib.IntN.{ℤ, pos, negsuc}
+use lib.Signed.{lt_z, le_z}
+use borrow.Author.Tests.{leb-true, leb-false, le-ltb, lt-ltb}
 use Rattle.lateness.specs.Totals.{lower_of, higher_of, pick_of, least_of, greatest_of}
 use Rattle.lateness.specs.Reports.{Among}
 use Rattle.lateness.proofs.Order.{le_same, le_via, lower_low, higher_high}
+
+-- ---- the picked one is that of the library
+
+dual_nat : (a b : ℕ) (x y : ℤ) → cond (ltb b a) y x ≡ cond (leb a b) x y
+dual_nat a b x y = by (leb a b) refl
+  where
+    by : (t : Bool) → leb a b ≡ t → cond (ltb b a) y x ≡ cond t x y
+    by true e = ap (λ (t : Bool). cond t y x) (le-ltb b a (leb-true a b e))
+    by false e = ap (λ (t : Bool). cond t y x) (lt-ltb b a (leb-false a b e))
+
+dual : (d e x y : ℤ) → cond (lt_z e d) y x ≡ cond (le_z d e) x y
+dual (pos a) (pos b) x y = dual_nat a b x y
+dual (pos a) (negsuc b) x y = refl
+dual (negsuc a) (pos b) x y = refl
+dual (negsuc a) (negsuc b) x y = dual_nat b a x y
+
+pub min_lower : (d e : ℤ) → int_min d e ≡ lower_of d e
+unfolding lower_of
+min_lower d e = dual d e d e
+
+pub max_higher : (d e : ℤ) → int_max d e ≡ higher_of d e
+unfolding higher_of
+max_higher d e = dual d e e d
 
 -- ---- the picked one is in the list
 

@@ -5,7 +5,7 @@ mod slots; // the difference of a slot
 mod summing; // the totals of a list
 
 pub use slots::{bench_time, difference, number_of, of_slot, value_of};
-pub use summing::totals;
+pub use summing::{refusal, totals};
 
 // The difference of a slot: none, in nanoseconds and negative if early, or refused.
 // Kept: these are the three answers of the paper; an Option of a Result names them no better.

@@ -27,18 +27,11 @@ fn is_within(d: i64) -> bool
 fn all_within(list: &[i64]) -> bool
     ensures { result ≡ all_within list.now }
 {
-    let mut i = list.len();
-    while 0 < i {
-        i -= 1;
-        let d = list[i];
-        if !is_within(d) {
-            return false;
-        }
-    }
-    true
+    list.iter().all(|d| is_within(*d))
 }
 
 // ---- What one difference adds
+// Kept: each function is one line; one for the three tests and one for the two picks would take the test or the pick as a closure, and be no shorter.
 
 fn early_one(d: i64) -> u32
     ensures { result ≡ one (is_early d) }
@@ -58,35 +51,17 @@ fn late_one(d: i64) -> u32
     if 0 < d { 1 } else { 0 }
 }
 
-fn lower(d: i64, e: i64) -> i64
-    ensures { result ≡ lower_of d e }
-{
-    if d <= e { d } else { e }
-}
-
-fn higher(d: i64, e: i64) -> i64
-    ensures { result ≡ higher_of d e }
-{
-    if d <= e { e } else { d }
-}
-
 // The least of a difference and `rest` others, the least of which is e.
 fn least_with(d: i64, rest: usize, e: i64) -> i64
     ensures { result ≡ pick_with lower_of d rest e }
 {
-    if rest == 0 {
-        return d;
-    }
-    lower(d, e)
+    if rest == 0 { d } else { d.min(e) }
 }
 
 fn greatest_with(d: i64, rest: usize, e: i64) -> i64
     ensures { result ≡ pick_with higher_of d rest e }
 {
-    if rest == 0 {
-        return d;
-    }
-    higher(d, e)
+    if rest == 0 { d } else { d.max(e) }
 }
 
 // The totals of `rest` differences, with one more.
@@ -102,23 +77,23 @@ fn with_one(d: i64, rest: usize, t: Report) -> Report
     let sum = d + t.sum;
     Report {
         number: 0,
-        early: early,
-        on_time: on_time,
-        late: late,
-        least: least,
-        greatest: greatest,
-        sum: sum,
+        early,
+        on_time,
+        late,
+        least,
+        greatest,
+        sum,
     }
 }
 
 // ---- Lists
 
 // A number with all totals 0.
-fn refusal(number: u8) -> Report
+pub fn refusal(number: u8) -> Report
     ensures { result ≡ refused number }
 {
     Report {
-        number: number,
+        number,
         early: 0,
         on_time: 0,
         late: 0,
@@ -149,13 +124,9 @@ fn summed(list: &[i64]) -> Report
     ensures { result ≡ totals_of list.now }
 {
     let mut t = no_totals();
-    let n = list.len();
-    let mut i = n;
-    while 0 < i {
-        let rest = n - i;
-        i -= 1;
+    for i in (0..list.len()).rev() {
         let d = list[i];
-        t = with_one(d, rest, t);
+        t = with_one(d, list.len() - 1 - i, t);
     }
     t
 }

@@ -7,6 +7,7 @@ ghost use Rattle.bits.specs.Widths.{at_most};
 ghost use Rattle.trace_in_pieces.specs.Pieces.{blank_held};
 ghost use Rattle.state_layout.specs.Numbers.{low_first};
 ghost use Rattle.state_layout.specs.Image.{state_bytes};
+ghost use Rattle.library_code.specs.Ways.{captured, piece_of};
 ghost use Rattle.library_run.specs.Run.{shown, image_of, image_size, showing, ran_on, run_on_card, run_on_text};
 
 use card_grammar::Card;
@@ -66,11 +67,17 @@ fn put_image(image: &mut [u8], slots: usize, fed: Fed, live: &[u32], cells: &[u3
 
 // ---- The run
 
+// What is run: a capture, in one call, or a trace, in pieces of so many bytes, where 0 stands for one piece.
+#[derive(Clone, Copy)]
+pub enum Way {
+    Capture,
+    Trace(usize),
+}
+
 // Replays a capture or feeds a trace, over lent memory, and puts the counts and the state.
-// Kept: nine parameters, each of which `library_run`'s `ran_on` and `showing` take one by one.
+// Kept: eight parameters, which `library_run`'s `ran_on` and `showing` take one by one.
 fn run_and_show(
-    captured: bool,
-    piece: usize,
+    way: Way,
     setup: Setup,
     live: &mut [u32],
     defaults: &[u32],
@@ -82,13 +89,12 @@ fn run_and_show(
     requires { (length live.old ≡ 64 * at_most setup.slots 32) × (image_size (at_most setup.slots 32) (length cells.old) ≤ length image.old) }
     ensures { shown result answers.new image.new
         ≡ showing (at_most setup.slots 32)
-        (ran_on captured piece setup defaults.now (blank_held setup live.old cells.old) input.now answers.old)
+        (ran_on (captured way) (piece_of way) setup defaults.now (blank_held setup live.old cells.old) input.now answers.old)
         image.old }
 {
-    let fed = if captured {
-        replay_over(setup, &mut *live, defaults, &mut *cells, input, answers)
-    } else {
-        run_over(
+    let fed = match way {
+        Way::Capture => replay_over(setup, &mut *live, defaults, &mut *cells, input, answers),
+        Way::Trace(piece) => run_over(
             setup,
             &mut *live,
             defaults,
@@ -96,17 +102,16 @@ fn run_and_show(
             input,
             piece,
             answers,
-        )
+        ),
     };
     put_image(image, setup.slots.min(32), fed, live, cells);
     u64::from(fed.number)
 }
 
 // Runs a capture or a trace on a card that was read.
-// Kept: seven parameters, as `library_run`'s `run_on_card` takes them.
+// Kept: six parameters, as `library_run`'s `run_on_card` takes them.
 fn run_card(
-    captured: bool,
-    piece: usize,
+    way: Way,
     card: Card,
     words: &[u32],
     input: &[u8],
@@ -115,7 +120,7 @@ fn run_card(
 ) -> u64
     requires { length words.now ≡ 2048 }
     ensures { shown result answers.new image.new
-        ≡ run_on_card captured piece card words.now input.now answers.old image.old }
+        ≡ run_on_card (captured way) (piece_of way) card words.now input.now answers.old image.old }
 {
     let mut live = [0u32; 2048];
     let mut cells = [0u32; 4095];
@@ -127,8 +132,7 @@ fn run_card(
         return SHORT_IMAGE;
     }
     run_and_show(
-        captured,
-        piece,
+        way,
         setup,
         &mut live[0..of_slots],
         &words[0..of_slots],
@@ -140,21 +144,14 @@ fn run_card(
 }
 
 // Reads the card's text, and runs a capture or a trace on the card.
-// Kept: six parameters, as the staticlibs' C functions are given them.
-pub fn run_text(
-    captured: bool,
-    piece: usize,
-    card: &[u8],
-    input: &[u8],
-    answers: &mut [u8],
-    image: &mut [u8],
-) -> u64
+// Kept: five parameters, as the staticlibs' C functions are given them.
+pub fn run_text(way: Way, card: &[u8], input: &[u8], answers: &mut [u8], image: &mut [u8]) -> u64
     ensures { shown result answers.new image.new
-        ≡ run_on_text captured piece card.now input.now answers.old image.old }
+        ≡ run_on_text (captured way) (piece_of way) card.now input.now answers.old image.old }
 {
     let mut words = [0u32; 2048];
     match card_text::read_card(card, &mut words) {
-        Ok(card) => run_card(captured, piece, card, &words, input, answers, image),
+        Ok(card) => run_card(way, card, &words, input, answers, image),
         Err(_) => BAD_CARD,
     }
 }

@@ -1,5 +1,6 @@
 // Replay of captures, by value over the lent slices: a stretch of the capture is written out as the trace that it stands for, and its records run
 // in their turn.
+// Kept in this file: `replay`, which README names, and `replay_in_place` take what is lent as slices beside set-up and device, and give the papers' numbers.
 #![tactic(auto)]
 
 mod running; // the entries of a call

@@ -56,6 +56,7 @@ fn ending(dev: Dev, end: End, input: &[u8], w: usize) -> ReplayedPort
     }
 }
 
+// Kept: what is lent goes as slices beside set-up and device, and how they fit stands in clauses, since a struct of `&mut` slices needs a clause on its ghost name in each function.
 // A call with nothing carried: stretch by stretch, each written out as a trace, whose records run in their turn, until the call ends.
 fn run_entries(
     table: &Masks,
@@ -132,6 +133,7 @@ fn carried_on(port: Port, r: Replay, input: &[u8]) -> ReplayedPort
     }
 }
 
+// Kept: what is lent goes as slices beside set-up and device, and how they fit stands in clauses, since a struct of `&mut` slices needs a clause on its ghost name in each function.
 // A call with bytes carried that begin a record of `size` bytes, which is whole now: that record, and then the entries.
 fn run_joined(
     table: &Masks,
@@ -182,6 +184,7 @@ fn run_joined(
     after_record(missing, rest)
 }
 
+// Kept: what is lent goes as slices beside set-up and device, and how they fit stands in clauses, since a struct of `&mut` slices needs a clause on its ghost name in each function.
 // A call that is not stopped, with the state of the replay as a call leaves it.
 pub fn run_capture(
     table: &Masks,

@@ -39,6 +39,7 @@ fn put_step(step: Step, input: &[u8], trace: &mut [u8]) -> usize
     }
 }
 
+// Kept: the place goes beside the whole input, as `step_of` counts it, and the trace is a `&mut` slice, so that a struct of them needs a clause on its ghost name in each function.
 // One step.
 fn one_step(
     r: Replay,
@@ -60,6 +61,7 @@ fn one_step(
     })
 }
 
+// Kept: the place goes beside the whole input, as `step_of` counts it, and the trace is a `&mut` slice, so that a struct of them needs a clause on its ghost name in each function.
 // What stands next: all entries that can be written out; where there is none, one step.
 fn next_part(
     r: Replay,
@@ -93,6 +95,7 @@ fn joined(s: Stretch, more: Stretch) -> Stretch
     }
 }
 
+// Kept: the place goes beside the whole input, as `step_of` counts it, and the trace is a `&mut` slice, so that a struct of them needs a clause on its ghost name in each function.
 // WHAT STANDS NEXT in a call: part after part, as long as there is room for the bytes of one more, until the call ends.
 pub fn next_stretch(
     r: Replay,

@@ -75,6 +75,7 @@ fn size_in_entry(kind: u8) -> usize
     if kind == 1 { 0 } else { size_of(kind) }
 }
 
+// Kept: stamp, place and room change one by one in the loop below, and a struct of them would be made for this call alone.
 // The entry at `at`, if it can be written out: as many bytes are there as the longest has, the recorder did not go back, and there is room for its
 // bytes and for its answers.
 fn next_entry(before: Stamp, input: &[u8], at: usize, space: usize, room: usize) -> Option<Entry>
@@ -94,6 +95,7 @@ fn next_entry(before: Stamp, input: &[u8], at: usize, space: usize, room: usize)
     Some(Entry { size, stamp, due })
 }
 
+// Kept: the place goes beside the whole input, and the trace is a `&mut` slice, so that a struct of them needs a clause on its ghost name.
 // ENTRIES, as many as can be written out, from `from` on.
 pub fn write_entries(
     earlier: Stamp,

@@ -15,15 +15,9 @@ use Rattle.trace.specs.Format.{when◌then◌else◌}
 use Rattle.trace.proofs.Tests.{if_true, if_false}
 use Rattle.capture.specs.Advances.{stamp_in, Earlier, back, longest_advance, rest, advances, between, due}
 use Rattle.capture.proofs.Advancing.{due_few}
-use Rattle.replay_state.specs.declared.Due.{Due}
-use Rattle.replay_state.specs.declared.Due.TheVariants.{Nothing, One, Two}
 use Rattle.replay_state.specs.inner.Moves.{due_of, advances_in}
 
 -- ---- the recorder went back
-pub first-stays : (e : Earlier) (s : Stamp) → e ≡ None → back e s ≡ false
-unfolding back
-first-stays e s h = ap (λ (x : Earlier). back x s) h
-
 pub later_went : (e : Earlier) (s s' : Stamp) → e ≡ Some s → back e s' ≡ went_back (difference s s')
 unfolding back
 later_went e s s' h = ap (λ (x : Earlier). back x s') h
@@ -77,9 +71,3 @@ advances-held (t ∷ u ∷ v ∷ more) h = absurd (omega arith)
 -- of a stamp they are those that are due
 pub dues_held : (e : Earlier) (stamp : List ℕ) → advances_in (due_of (due e stamp)) ≡ due e stamp
 dues_held e stamp = advances-held (due e stamp) (due_few e stamp)
-
--- and at most two
-pub few_held : (d : Due) → length (advances_in d) ≤ 2
-few_held Nothing = omega arith
-few_held (One t) = omega arith
-few_held (Two t u) = omega arith

@@ -1,44 +1,19 @@
 -- Whether the state of a replay fits, case by case.
 use Prim.Native.Nat.{ℕ, zero, suc, ◌≤◌, ◌<◌}
-use mathlib.Core.Path.{◌≡◌, refl, ap, sym, ◌∙◌}
-use mathlib.Core.Bool.{Bool, true, false, not, ◌&&◌, ◌||◌}
+use mathlib.Core.Path.{◌≡◌, refl, ap, ◌∙◌}
+use mathlib.Core.Bool.{Bool, true, false, not, ◌&&◌}
 use mathlib.Core.List.{List, [], ◌∷◌}
 use native.Mathlib.Omega.{arith}
 use lib.ListN.{length, get_or, take}
 use lib.Dec.{leb, eqb}
-use borrow.Author.Tests.{le-leb, lt-leb, eq-eqb, ne_eqb}
+use borrow.Author.Tests.{le-leb, lt-leb}
 use Rattle.std.specs.Prelude.{is_some}
 use Rattle.bits.proofs.Tests.{truth}
-use Rattle.trace.specs.Format.{when◌then◌else◌}
 use Rattle.capture.specs.declared.Replay.{Replay}
-use Rattle.capture.specs.Advances.{stamp_in, back, due}
-use Rattle.capture.specs.Replay.{Progress, end_fits, matches}
+use Rattle.capture.specs.Advances.{due}
+use Rattle.capture.specs.Replay.{end_fits, matches}
 use Rattle.capture.specs.Lent.{progress_in, stamp_fits}
 use Rattle.replay_state.proofs.Moves.{bytes_there}
-
--- ---- the number that ended it
-module _ (p : Progress) where
-  abbrev number : ℕ
-  number = when back p.earlier (stamp_in p.stamp) then 32 else 33
-
-  pub not_ended : p.ended ≡ 0 → end_fits p ≡ true
-  unfolding end_fits
-  not_ended e = ap (λ (t : Bool). t || (eqb (length p.stamp) 4 && eqb p.ended number)) (eq-eqb p.ended 0 e)
-
-  module _ (h : p.ended ≡ 0 → ⊥) where
-    -- only with all 4 bytes of the stamp
-    pub ended_early : (length p.stamp ≡ 4 → ⊥) → end_fits p ≡ false
-    unfolding end_fits
-    ended_early l =
-        ap (λ (t : Bool). t || (eqb (length p.stamp) 4 && eqb p.ended number)) (ne_eqb p.ended 0 h)
-        ∙ ap (λ (t : Bool). t && eqb p.ended number) (ne_eqb (length p.stamp) 4 l)
-
-    pub ended_with_lem : (n : ℕ) → length p.stamp ≡ 4 → number ≡ n → end_fits p ≡ eqb p.ended n
-    unfolding end_fits
-    ended_with_lem n l e =
-        ap (λ (t : Bool). t || (eqb (length p.stamp) 4 && eqb p.ended number)) (ne_eqb p.ended 0 h)
-        ∙ ap (λ (t : Bool). t && eqb p.ended number) (eq-eqb (length p.stamp) 4 l)
-        ∙ ap (eqb p.ended) e
 
 -- ---- the port's carried bytes
 module _ (r : Replay) where

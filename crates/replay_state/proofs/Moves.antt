@@ -1,5 +1,5 @@
 -- How the state of a replay moves, as the code writes it: field by field.
-use Prim.Native.Nat.{ℕ, ◌+◌, ◌-◌, ◌≤◌, ◌<◌, min}
+use Prim.Native.Nat.{ℕ, ◌+◌, ◌-◌, ◌≤◌, min}
 use mathlib.Core.Path.{◌≡◌, refl, ap, sym, ◌∙◌}
 use mathlib.Core.List.{List, [], ◌∷◌, ◌++◌, append_assoc}
 use native.Mathlib.Omega.{arith}
@@ -9,29 +9,13 @@ use Rattle.std.proofs.lemmas.List.{drop_at, drop-replicate}
 use Rattle.bits.proofs.Numbers.{by_le}
 use Rattle.trace.specs.Format.{pad}
 use Rattle.capture.specs.declared.Replay.{Replay}
-use Rattle.capture.specs.Replay.{ended_with, more_answered}
 use Rattle.capture.specs.Lent.{progress_in, replay_of}
 use Rattle.replay_state.specs.inner.Moves.{Tidy, more_bytes}
 
 -- ---- a tidy state with one part changed
-pub ended_so : (r : Replay) (n : ℕ) → Tidy r
-    → record { earlier = r.earlier; stamp_len = r.stamp_len; stamp = r.stamp; answered = r.answered; ended = n } ≡ replay_of (ended_with n (progress_in r))
-ended_so r n t = λ i. record { earlier = (t i).earlier; stamp_len = (t i).stamp_len; stamp = (t i).stamp; answered = r.answered; ended = n }
-
-pub answered_so : (r : Replay) (n : ℕ) → Tidy r
-    → record { earlier = r.earlier; stamp_len = r.stamp_len; stamp = r.stamp; answered = r.answered + n; ended = r.ended } ≡ replay_of (more_answered n (progress_in r))
-answered_so r n t = λ i. record { earlier = (t i).earlier; stamp_len = (t i).stamp_len; stamp = (t i).stamp; answered = r.answered + n; ended = r.ended }
-
 pub stamped_so : (r : Replay) (bs s : List ℕ) (n : ℕ) → Tidy r → n ≡ length ((progress_in r).stamp ++ bs) → s ≡ pad 4 ((progress_in r).stamp ++ bs)
     → record { earlier = r.earlier; stamp_len = n; stamp = s; answered = r.answered; ended = r.ended } ≡ replay_of (more_bytes bs (progress_in r))
 stamped_so r bs s n t e f = λ i. record { earlier = (t i).earlier; stamp_len = e i; stamp = f i; answered = r.answered; ended = r.ended }
-
--- ---- any state made tidy
-pub tidied_so : (r : Replay) (s : List ℕ) → r.stamp_len ≤ length r.stamp → s ≡ pad 4 (progress_in r).stamp
-    → record { earlier = r.earlier; stamp_len = r.stamp_len; stamp = s; answered = r.answered; ended = r.ended } ≡ replay_of (progress_in r)
-tidied_so r s h g =
-    let n : r.stamp_len ≡ length (progress_in r).stamp = sym (length-take-le r.stamp_len r.stamp h) in
-    λ i. record { earlier = r.earlier; stamp_len = n i; stamp = g i; answered = r.answered; ended = r.ended }
 
 -- ---- the bytes of a stamp, and all of them
 pub bytes_there : (r : Replay) → length r.stamp ≡ 4 → r.stamp_len ≤ 4 → length (progress_in r).stamp ≡ r.stamp_len

@@ -52,6 +52,7 @@ pub fn advances_of(t: Nanos) -> Due
     }
 }
 
+// Kept: a state is asked as a caller lends it, with any count of stamp bytes, so that it has four stands in the clause.
 // Whether the recorder went back at the stamp in hand.
 #[tactic(auto, using(crate::proofs::Moves::all_bytes), unfolding(capture::specs::Advances::back))]
 pub fn goes_back(r: Replay) -> bool
@@ -84,6 +85,7 @@ pub fn due_of(r: Replay) -> Due
     }
 }
 
+// Kept: as in `goes_back`.
 // What is checked at the kind byte before the advances: 32, then 33, else nothing.
 pub fn checked(r: Replay, kind: u8) -> Option<u8>
     requires { r.stamp_len ≡ 4 }

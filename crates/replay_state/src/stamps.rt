@@ -22,6 +22,7 @@ pub fn fresh() -> Replay
     }
 }
 
+// Kept: a `From<[u8; 4]>` could stand in `ticks` alone, where `Stamp` is, below the definition in `capture` that this answers.
 // The stamp that four bytes are, low byte first.
 #[tactic(auto, unfolding(capture::specs::Advances::stamp_in))]
 pub fn stamp_in(bytes: [u8; 4]) -> Stamp
@@ -52,20 +53,12 @@ pub fn tidy(r: Replay) -> Replay
     }
 }
 
-// A stamp whose four bytes stand in the input from `at` on.
-fn whole_stamp(input: &[u8], at: usize) -> [u8; 4]
-    requires { at + 4 ≤ length input.now }
-    ensures { result ≡ take 4 (drop at input.now) }
-{
-    [input[at], input[at + 1], input[at + 2], input[at + 3]]
-}
-
 // The stamp whose four bytes stand in the input from `at` on.
 pub fn stamp_at(input: &[u8], at: usize) -> Stamp
     requires { at + 4 ≤ length input.now }
     ensures { result ≡ stamp_in (take 4 (drop at input.now)) }
 {
-    stamp_in(whole_stamp(input, at))
+    stamp_in([input[at], input[at + 1], input[at + 2], input[at + 3]])
 }
 
 // The bytes of the input from `at` on join those of the stamp, until it has four or the input ends.

@@ -41,6 +41,7 @@ fn all_fed(number: u8, consumed: usize, written: usize, port: Port, statuses: [S
     }
 }
 
+// Kept: what is lent goes as slices beside set-up and device, and how they fit stands in clauses, since a struct of `&mut` slices needs a clause on its ghost name in each function.
 // Feeds the trace piece by piece, until a call gives a number or the trace ends; the counts are those of all calls.
 fn feed_pieces(
     setup: Setup,
@@ -86,6 +87,7 @@ fn feed_pieces(
     all_fed(number, consumed, written, port, in_statuses(phases))
 }
 
+// Kept: the live words and the cells go as the slices that `set_up` takes.
 // Set-up of a blank port with every slot Down.
 fn set_up_blank(setup: Setup, live: &mut [u32], defaults: &[u32], cells: &mut [u32]) -> SetUp
     ensures { prepared setup.slots result live.new cells.new
@@ -102,6 +104,7 @@ fn set_up_blank(setup: Setup, live: &mut [u32], defaults: &[u32], cells: &mut [u
     )
 }
 
+// Kept: what is lent goes as slices beside set-up and device, and how they fit stands in clauses, since a struct of `&mut` slices needs a clause on its ghost name in each function.
 // Set-up, and then the trace in pieces; a set-up that is refused gets none of it.
 pub fn run_over(
     setup: Setup,
@@ -126,6 +129,7 @@ pub fn run_over(
     )
 }
 
+// Kept: what is lent goes as slices beside set-up and device, and how they fit stands in clauses, since a struct of `&mut` slices needs a clause on its ghost name in each function.
 // Set-up, and then the capture in one call of a replay that has taken nothing; a set-up that is refused gets none of it.
 pub fn replay_over(
     setup: Setup,

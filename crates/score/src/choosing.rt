@@ -1,11 +1,10 @@
 // The differences of one slot, and the totals of what was collected.
 ghost use Rattle.std.specs.Prelude.{◌≡◌, length};
-ghost use Rattle.lateness.specs.Totals.{refused};
 ghost use Rattle.score.specs.Scores.{is_of, pick, chosen, total_of, capture_total};
 
 use crate::Collected;
-use crate::collecting::{collect, next_count, nothing_collected, put_value};
-use lateness::{Report, totals};
+use crate::collecting::{collect, next_count, nothing_collected, put};
+use lateness::{Report, refusal, totals};
 use readiness::Moments;
 
 // Whether the difference at a place is of the slot.
@@ -21,7 +20,7 @@ fn pick_if(list: &mut [i64], count: usize, applies: bool, d: i64) -> usize
     ensures { record { count = result; list = list.new } ≡ pick applies d (record { count = count; list = list.old }) }
 {
     if applies {
-        put_value(list, count, d);
+        put(list, count, d);
         next_count(count)
     } else {
         count
@@ -40,27 +39,12 @@ pub fn choose(values: &[i64], of: &[usize], slot: usize, list: &mut [i64]) -> us
     count
 }
 
-// A number with all totals 0.
-fn no_totals(number: u8) -> Report
-    ensures { result ≡ refused number }
-{
-    Report {
-        number,
-        early: 0,
-        on_time: 0,
-        late: 0,
-        least: 0,
-        greatest: 0,
-        sum: 0,
-    }
-}
-
 // The totals of what was collected: 34 if a difference was refused, else 35 if there are more than 9,000.
 pub fn total(values: &[i64], c: Collected) -> Report
     ensures { result ≡ total_of c.outside c.count values.now }
 {
     if c.outside {
-        return no_totals(34);
+        return refusal(34);
     }
     let n = c.count.min(values.len());
     totals(&values[0..n])

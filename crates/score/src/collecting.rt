@@ -1,4 +1,5 @@
 // The differences of a capture, after those of earlier ones.
+// Kept in this file: the parameters are those of `collect`, an entry that is lent the two lists.
 ghost use Rattle.std.specs.Prelude.{◌≡◌, false, set};
 ghost use Rattle.score.specs.Scores.{next_count, difference_at, Lists, lists, kept, with_difference, collected};
 
@@ -30,19 +31,12 @@ pub fn next_count(count: usize) -> usize
     if count < 9001 { count + 1 } else { count }
 }
 
-pub fn put_value(values: &mut [i64], at: usize, d: i64)
-    ensures { values.new ≡ set values.old at d }
+// An item is put at a place, if it is there.
+pub fn put<T: Copy>(list: &mut [T], at: usize, item: T)
+    ensures { list.new ≡ set list.old at item }
 {
-    if at < values.len() {
-        values[at] = d;
-    }
-}
-
-fn put_slot(of: &mut [usize], at: usize, slot: usize)
-    ensures { of.new ≡ set of.old at slot }
-{
-    if at < of.len() {
-        of[at] = slot;
+    if at < list.len() {
+        list[at] = item;
     }
 }
 
@@ -51,8 +45,8 @@ fn keep(values: &mut [i64], of: &mut [usize], c: Collected, slot: usize, d: i64)
     ensures { lists result values.new of.new ≡ kept slot d (lists c values.old of.old) }
 {
     let at = c.count;
-    put_value(values, at, d);
-    put_slot(of, at, slot);
+    put(values, at, d);
+    put(of, at, slot);
     Collected {
         count: next_count(at),
         outside: c.outside,

@@ -9,6 +9,7 @@ pub use choosing::{choose, total, total_of_capture};
 pub use collecting::{collect, difference_at, nothing_collected};
 
 // How many differences were collected, 9,001 for more than 9,000; and whether one was refused.
+// Kept: two answers, of which neither stands for the other; the entries lend the lists beside them.
 #[derive(Clone, Copy)]
 pub struct Collected {
     pub count: usize,

@@ -68,6 +68,7 @@ pub struct SetUp {
 }
 
 // Set-up: a refusal changes nothing.
+// Kept: an entry, whose parameters are the memory that is lent.
 pub fn set_up(
     setup: Setup,
     port: Port,

@@ -1,4 +1,5 @@
 // What refuses a call before a byte is looked at: the first that applies.
+// Kept in this file: the parameters are the entries', a set-up of any number of slots and lent memory; `refusal` answers the papers' number.
 ghost use Rattle.std.specs.Prelude.{◌≡◌, List, ℕ, ◌+◌, ◌*◌, ◌≤◌, ◌<◌, length, take};
 ghost use Rattle.registers.specs.Rows.{checked_words};
 ghost use Rattle.trace.specs.Format.{begun};

@@ -1,7 +1,6 @@
 // Slot statuses as numbers, four to a slot: the phase with its cause, the ready time, the end of an FLR, and the moment at which the slot last became
 // Ready, which is no part of its status. They are lent as a slice of numbers, and changed in place.
-// Kept: `feed::feed_lent` lends its statuses so, from call to call; and an array of statuses by value, a copy of 1 KB through each call, halves the
-// speed of resets, long advances and short pieces.
+// Kept in this file: statuses as numbers, an index below their count: `feed::feed_lent` lends them so; arrays by value lose half the speed of resets and long advances.
 ghost use Rattle.std.specs.Prelude.{◌≡◌, ◌<◌, length, get_or, set};
 ghost use Rattle.readiness.specs.Status.{ready};
 ghost use Rattle.readiness.specs.inner.Phases.{status_of, statuses_in, moments_in, notes_at};

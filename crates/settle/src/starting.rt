@@ -1,4 +1,5 @@
 // What starts a slot anew, and what a reset leaves of the device.
+// Kept in this file: at most 32 slots, and as many numbers as slots, are facts of plain set-ups and of memory that is lent.
 ghost use Rattle.std.specs.Prelude.{◌≡◌, ◌≤◌, length};
 ghost use Rattle.times.specs.Codes.{nanos_of};
 ghost use Rattle.times.specs.Moments.{sum_of};

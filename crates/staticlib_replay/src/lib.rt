@@ -4,7 +4,7 @@
 ghost use Rattle.std.specs.Prelude.{◌≡◌};
 ghost use Rattle.library_run.specs.Run.{shown, replay_of};
 
-use library_code::run_text;
+use library_code::{Way, run_text};
 
 // Sets the card up and replays the whole capture in one call, from its beginning. Gives the call's number, the number for which the
 // set-up is refused, 100 where the card's text is no card, or 101 where the image is too short. The image takes the counts of bytes
@@ -19,5 +19,5 @@ pub extern "C" fn otsnebura_replay(
     ensures { shown result answers.new image.new
         ≡ replay_of card.now capture.now answers.old image.old }
 {
-    run_text(true, 0, card, capture, answers, image)
+    run_text(Way::Capture, card, capture, answers, image)
 }

@@ -9,5 +9,5 @@ pub returns : goal.returns
 unfolding low_first
 returns c = let a = c.args in
     c.put_eight-2.ensures
-    ∙ (λ t. sets ((c.put_eight.ensures ∙ (λ u. sets a.image.now 0 (low_first 8 a.consumed))) t) 8 (low_first 8 a.written))
+    ∙ (λ t. sets (c.put_eight.ensures t) 8 (low_first 8 a.written))
     ∙ sets-next (low_first 8 a.consumed) (low_first 8 a.written) a.image.now 0 8 refl

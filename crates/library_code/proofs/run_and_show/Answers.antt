@@ -1,6 +1,5 @@
 -- `library_code::run_and_show` meets its contract.
 use Prim.Native.Nat.{ℕ, ◌≤◌}
-use mathlib.Core.Bool.{Bool}
 use mathlib.Core.List.{List, ◌++◌}
 use mathlib.Core.Path.{◌≡◌, ap, sym, ◌∙◌}
 use native.Mathlib.Omega.{arith}
@@ -15,25 +14,27 @@ use Rattle.feed.specs.Left.{left}
 use Rattle.trace_in_pieces.specs.Pieces.{blank_held}
 use Rattle.library_run.specs.Run.{shown, image_of, showing, ran_on}
 use Rattle.library_run.proofs.Laws.{lengths}
+use Rattle.library_code.specs.declared.Way.{Way}
+use Rattle.library_code.specs.Ways.{captured, piece_of}
 use Rattle.library_code.proofs.Showing.{sets-front, lent-front}
 use Rattle.library_code.proofs.run_and_show.Goals as goal
-use Rattle.library_code.proofs.run_and_show.Goals.{then-captured, else-captured}
+use Rattle.library_code.proofs.run_and_show.Goals.{in-Capture, in-Trace}
 
 pub returns : goal.returns
 unfolding showing
 returns c =
     let a = c.args in
-    let x = c.if-captured in
+    let x = c.match-way in
     let n = a.setup.slots in
     let k = at_most n 32 in
     -- what a capture leaves, and what a trace does
-    let gives : Bool → Left Held =
-    λ captured. ran_on captured a.piece a.setup a.defaults.now (blank_held a.setup a.live.now a.cells.now) a.input.now a.answers.now in
+    let gives : Way → Left Held =
+    λ way. ran_on (captured way) (piece_of way) a.setup a.defaults.now (blank_held a.setup a.live.now a.cells.now) a.input.now a.answers.now in
     -- what is left where the two ways meet
-    let leaves : left n x.fed x.live x.cells x.answers ≡ gives a.captured =
+    let leaves : left n x.fed x.live x.cells x.answers ≡ gives a.way =
     elim x.branch [
-      | then-captured w ↦ (λ t. left n (w.fed-is t) (w.live-is t) (w.cells-is t) (w.answers-is t)) ∙ w.replay_over-fed.ensures ∙ ap gives (sym w.if-captured.true)
-      | else-captured w ↦ (λ t. left n (w.fed-is t) (w.live-is t) (w.cells-is t) (w.answers-is t)) ∙ w.run_over-fed.ensures ∙ ap gives (sym w.if-captured.false)
+      | in-Capture w ↦ (λ t. left n (w.fed-is t) (w.live-is t) (w.cells-is t) (w.answers-is t)) ∙ w.replay_over-fed.ensures ∙ ap gives (sym w.in-Capture.is)
+      | in-Trace w ↦ (λ t. left n (w.fed-is t) (w.live-is t) (w.cells-is t) (w.answers-is t)) ∙ w.run_over-fed.ensures ∙ ap gives (sym w.in-Trace.is)
     ] in
     let live : length x.live ≡ length a.live.now = search rules in
     let cells : length x.cells ≡ length a.cells.now = search rules in

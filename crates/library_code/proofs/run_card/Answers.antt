@@ -7,6 +7,7 @@ use borrow.Author.Tests.{lt-ltb, le-ltb}
 use native.Mathlib.Omega.{arith}
 use native.Mathlib.Nat.{sub-zero}
 use Rattle.trace_in_pieces.specs.Pieces.{blank_held}
+use Rattle.library_code.specs.Ways.{captured, piece_of}
 use Rattle.library_code.proofs.Showing.{take_same}
 use Rattle.library_run.specs.Run.{image_size, showing, ran_on, run_on_card}
 use Rattle.bits.proofs.Choices.{when_true, when_false}
@@ -38,5 +39,5 @@ returns c =
     let cells : take (q - 0) z₂ ≡ replicate m 0 = ap (λ (j : ℕ). take j z₂) (sub-zero q ∙ eq) ∙ take_same m 4095 0 q₄ in
     let size : c.image_bytes.result ≡ image_size k m = c.image_bytes.ensures ∙ (λ t. image_size (en t) (eq t)) in
     c.run_and_show.ensures
-    ∙ (λ t. showing k (ran_on a.captured a.piece a.card.setup (words t) (blank_held a.card.setup (live t) (cells t)) a.input.now a.answers.now) a.image.now)
+    ∙ (λ t. showing k (ran_on (captured a.way) (piece_of a.way) a.card.setup (words t) (blank_held a.card.setup (live t) (cells t)) a.input.now a.answers.now) a.image.now)
     ∙ sym (when_false _ _ _ (le-ltb _ _ (subst (λ (j : ℕ). j ≤ length a.image.now) size c.if-image-image_bytes.false)))

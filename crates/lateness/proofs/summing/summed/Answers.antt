@@ -38,26 +38,25 @@ module _ (l : List ℤ) (i : ℕ) (low : 0 < i) (high : i ≤ length l) where
       subst (Room here) (sym e) (room here (drop i l) a n)
 
 pub loop-i-init : goal.loop-i-init
-loop-i-init c = (omega arith, c.no_totals-t.ensures ∙ none_yet c.args.list.now)
+loop-i-init c = c.no_totals-t.ensures ∙ none_yet c.args.list.now
 
 pub with_one-t-requires : goal.with_one-t-requires
 with_one-t-requires c =
-    let a = c in
-    let l = a.args.list.now in
-    subst (λ (z : ℤ). Room z a.loop-i.t) (sym (told _ c.d-1.given))
-    (fits l a.loop-i.i c.loop-i-test.true a.loop-i.invariant.0 a.loop-i.t a.loop-i.invariant.1 a.requires.0 a.requires.1)
+    subst (λ (z : ℤ). Room z c.loop-i.t) (sym (told _ c.d-1.given))
+    (fits c.args.list.now c.loop-i.i c.loop-i-test.true (omega arith) c.loop-i.t c.loop-i.invariant c.requires.0 c.requires.1)
 
 pub loop-i-preserved : goal.loop-i-preserved
 loop-i-preserved c =
-    let a = c in
-    let l = a.args.list.now in
-    let rest = length l - a.loop-i.i in (
-      omega arith,
-      c.with_one-t.ensures ∙ ap (λ (z : ℤ). with_one z rest a.loop-i.t) (told _ c.d-1.given)
-          ∙ more l a.loop-i.i c.loop-i-test.true a.loop-i.invariant.0 a.loop-i.t a.loop-i.invariant.1,
-    )
+    let l = c.args.list.now in
+    let i = c.loop-i.i in
+    let some : 0 < i = c.loop-i-test.true in
+    let rest : length l - 1 - (i - 1) ≡ length l - i = omega arith in
+    c.with_one-t.ensures
+    ∙ ap (λ (z : ℤ). with_one z (length l - 1 - (i - 1)) c.loop-i.t) (told _ c.d-1.given)
+    ∙ ap (λ (n : ℕ). with_one (get_or l (i - 1) (pos 0)) n c.loop-i.t) rest
+    ∙ more l i some (omega arith) c.loop-i.t c.loop-i.invariant
 
 pub returns : goal.returns
 returns c =
     let z : c.loop-i.i ≡ 0 = omega arith in
-    c.loop-i.invariant.1 ∙ whole c.args.list.now c.loop-i.i z
+    c.loop-i.invariant ∙ whole c.args.list.now c.loop-i.i z

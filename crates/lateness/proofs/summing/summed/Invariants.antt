@@ -1,12 +1,8 @@
 -- `summing::summed` meets its contract. The loop's invariant: the totals are those of the list from i on.
 use mathlib.Core.Path.{◌≡◌}
-use Prim.Native.Nat.{◌≤◌}
-use lib.ListN.{length, drop}
+use lib.ListN.{drop}
 use Rattle.lateness.specs.Totals.{totals_of}
 use Rattle.lateness.proofs.summing.summed.Given as goal
 
 abbrev pub invariant-loop-i : goal.invariant-loop-i
-invariant-loop-i l = (l.i ≤ length l.list) × (l.t ≡ totals_of (drop l.i l.list))
-
-abbrev pub decreases-loop-i : goal.decreases-loop-i
-decreases-loop-i l = l.i
+invariant-loop-i l = l.t ≡ totals_of (drop l.i l.list)

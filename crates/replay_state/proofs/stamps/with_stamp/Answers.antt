@@ -1,5 +1,5 @@
 -- `replay_state::stamps::with_stamp` meets its contract.
-use Prim.Native.Nat.{ℕ, ◌+◌, ◌-◌, ◌≤◌, min}
+use Prim.Native.Nat.{ℕ, ◌+◌, ◌-◌}
 use mathlib.Core.Path.{◌≡◌, ap, sym, ◌∙◌}
 use mathlib.Core.List.{List, ◌++◌}
 use native.Mathlib.Omega.{arith}
@@ -8,7 +8,6 @@ use lib.Seq.{length-take-le}
 use borrow.Author.Rules.{rules}
 use Rattle.trace.specs.Format.{pad}
 use Rattle.capture.specs.declared.Replay.{Replay}
-use Rattle.capture.specs.Lent.{progress_in}
 use Rattle.replay_state.proofs.Moves.{bytes_join, bytes_taken, stamped_so, bytes_there}
 use Rattle.replay_state.proofs.stamps.with_stamp.Goals as goal
 

@@ -19,7 +19,7 @@ module _ (b : Bool) (d : ℤ) (p : Picked) where
 pub returns-then-applies : goal.returns-then-applies
 returns-then-applies c =
     let a = c.args in
-    (λ i. record { count = c.next_count.ensures i; list = c.put_value.ensures i })
+    (λ i. record { count = c.next_count.ensures i; list = c.put.ensures i })
     ∙ ap (λ (z : ℤ). record { count = next_count a.count; list = set a.list.now a.count z }) (read a.d c.ranges.d)
     ∙ sym (picks a.applies a.d (record { count = a.count; list = a.list.now }) c.if-applies.true)
 

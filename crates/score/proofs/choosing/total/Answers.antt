@@ -23,7 +23,7 @@ module _ (o : Bool) (n : ℕ) (v : List ℤ) where
   gives e = ap (λ (b : Bool). cond b (refused 34) (report (take (min n (length v)) v))) e
 
 pub returns-then-c : goal.returns-then-c
-returns-then-c c = let a = c.args in c.no_totals.ensures ∙ sym (refuses a.c.outside a.c.count a.values.now c.if-c.true)
+returns-then-c c = let a = c.args in c.refusal.ensures ∙ sym (refuses a.c.outside a.c.count a.values.now c.if-c.true)
 
 pub returns : goal.returns
 returns c = let a = c.args in c.totals.ensures ∙ ap (λ (n : ℕ). report (take n a.values.now)) (less_none _ ∙ c.min-n.ensures) ∙ sym (gives a.c.outside a.c.count a.values.now c.if-c.false)

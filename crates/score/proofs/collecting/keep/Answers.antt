@@ -12,7 +12,7 @@ returns c =
     (λ i. record {
       count = c.next_count.ensures i;
       outside = a.c.outside;
-      values = c.put_value.ensures i;
-      slots = c.put_slot.ensures i;
+      values = c.put.ensures i;
+      slots = c.put-2.ensures i;
     })
     ∙ ap (λ (z : ℤ). kept a.slot z (lists a.c a.values.now a.of.now)) (read a.d c.ranges.d)

@@ -1,5 +1,5 @@
 // Answers that are written in large pieces: bytes wait in a buffer until it is full.
-ghost use Rattle.std.specs.Prelude.{◌≡◌, ◌≤◌, ◌+◌, min};
+ghost use Rattle.std.specs.Prelude.{◌≡◌, ◌≤◌, ◌+◌, min, ◌↔◌, IsOk, IsNone};
 
 use crate::failure::Failure;
 use crate::input::PIECE;
@@ -28,7 +28,9 @@ impl<'a> Answers<'a> {
     }
 
     // Whether everything could be written so far.
-    pub fn written(&self) -> Result<(), Failure> {
+    pub fn written(&self) -> Result<(), Failure>
+        ensures { IsOk result ↔ IsNone self.now.writer.failed }
+    {
         self.writer.written()
     }
 

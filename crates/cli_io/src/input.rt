@@ -1,5 +1,5 @@
 // A file that is read in pieces.
-ghost use Rattle.std.specs.Prelude.{◌≡◌, ◌≤◌, ◌+◌, min};
+ghost use Rattle.std.specs.Prelude.{◌≡◌, ◌≤◌, ◌+◌, ◌-◌, min, length};
 
 use crate::failure::Failure;
 use std::fs::File;
@@ -44,7 +44,9 @@ impl<'a> Input<'a> {
     }
 
     // What was read and not yet taken.
-    pub fn unread(&self) -> &[u8] {
+    pub fn unread(&self) -> &[u8]
+        ensures { length result.now ≡ self.now.to - self.now.from }
+    {
         &self.bytes[self.from..self.to]
     }
 

@@ -1,5 +1,5 @@
 // Output that is written in large pieces: text waits on a page until it is long.
-ghost use Rattle.std.specs.Prelude.{◌≡◌, ◌≤◌, [], length};
+ghost use Rattle.std.specs.Prelude.{◌≡◌, ◌≤◌, [], length, ◌↔◌, IsOk, IsNone};
 
 use crate::failure::Failure;
 use crate::input::PIECE;
@@ -25,7 +25,9 @@ impl<'a> Output<'a> {
     }
 
     // Whether everything could be written so far.
-    pub fn written(&self) -> Result<(), Failure> {
+    pub fn written(&self) -> Result<(), Failure>
+        ensures { IsOk result ↔ IsNone self.now.writer.failed }
+    {
         self.writer.written()
     }
 

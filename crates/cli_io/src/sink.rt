@@ -1,5 +1,5 @@
 // Where bytes are written.
-ghost use Rattle.std.specs.Prelude.{◌≡◌};
+ghost use Rattle.std.specs.Prelude.{◌≡◌, ◌↔◌, IsOk, IsNone};
 
 use crate::failure::Failure;
 use std::fs::File;
@@ -46,7 +46,9 @@ impl<'a> Writer<'a> {
     }
 
     // Whether everything could be written so far.
-    pub fn written(&self) -> Result<(), Failure> {
+    pub fn written(&self) -> Result<(), Failure>
+        ensures { IsOk result ↔ IsNone self.now.failed }
+    {
         match self.failed {
             Some(failure) => Err(failure),
             None => Ok(()),

@@ -40,7 +40,10 @@ fn complain_progress(rt: &HostRuntime, megabytes: u64) {
 }
 
 impl<'a> Flow<'a> {
-    pub fn new(rt: &'a HostRuntime, way: Way<'a>) -> Flow<'a> {
+    pub fn new(rt: &'a HostRuntime, way: Way<'a>) -> Flow<'a>
+        ensures nothing_left { result.left ≡ 0 }
+        ensures quiet_value { result.quiet ≡ way.entry.quiet }
+    {
         Flow {
             input: Input::new(way.input),
             left: 0,

@@ -1,5 +1,5 @@
 // A card, and the memory that its bench runs on.
-ghost use Rattle.std.specs.Prelude.{◌≡◌, ◌*◌, min, length};
+ghost use Rattle.std.specs.Prelude.{◌≡◌, ◌*◌, ◌≢◌, min, length, IfErr, IfSome};
 
 use crate::session::Session;
 use readiness::{Setup, all_down};
@@ -28,7 +28,9 @@ impl Card {
     }
 
     // The number of its set-up's refusal, where it is refused.
-    pub fn refusal(&self) -> Option<u8> {
+    pub fn refusal(&self) -> Option<u8>
+        ensures { IfSome result (λ number. number ≢ 0) }
+    {
         let mut live = [0u32; WORDS];
         let mut cells = [0u32; CELLS];
         Memory::over(self, &mut live, &mut cells).set_up().err()
@@ -66,7 +68,9 @@ impl<'a> Memory<'a> {
     }
 
     // Sets the card up; the number of the refusal, where it is refused.
-    pub fn set_up(&mut self) -> Result<Session, u8> {
+    pub fn set_up(&mut self) -> Result<Session, u8>
+        ensures { IfErr result (λ number. number ≢ 0) }
+    {
         let setup = self.card.setup;
         let made = bench_by_value::set_up_first(
             setup,

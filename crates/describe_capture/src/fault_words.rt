@@ -8,7 +8,6 @@ ghost use Rattle.capture_lines.specs.Faults.{apart_text, went_back_text, advance
 
 use crate::capture_words::put_place;
 use crate::stamp_words::{put_span, put_stamp};
-use bits::u64_of_u32;
 use capture_lines::CaptureFault;
 use text_line::Page;
 use ticks::{Stamp, difference, ticks_number};
@@ -19,7 +18,7 @@ use ticks::{Stamp, difference, ticks_number};
 fn put_apart(page: &mut Page, earlier: Stamp, stamp: Stamp)
     ensures { page.new ≡ put (apart_text earlier stamp) page.old }
 {
-    let forward = u64_of_u32(ticks_number(difference(earlier, stamp)));
+    let forward = u64::from(ticks_number(difference(earlier, stamp)));
     put_span(page, difference(stamp, earlier));
     page.put_named(b" back or ", forward);
     page.put_text(b" ticks forward");

@@ -7,7 +7,6 @@ ghost use Rattle.text_line.specs.Page.{put};
 ghost use Rattle.capture.specs.Advances.{advances};
 ghost use Rattle.capture_lines.specs.Stamps.{ten_of, stamp_column, stamp_text, clock_column, difference_text, span_text, advance_count, advance_at, part_text, advance_text};
 
-use bits::u64_of_u32;
 use text_line::Page;
 use ticks::{Stamp, Ticks, in_nanos, stamp_number, ticks_number};
 use times::{Nanos, nanos_number};
@@ -26,14 +25,14 @@ fn put_ten(page: &mut Page, n: u64)
 pub fn put_stamp_column(page: &mut Page, stamp: Stamp)
     ensures { page.new ≡ put (stamp_column stamp) page.old }
 {
-    put_ten(page, u64_of_u32(stamp_number(stamp)));
+    put_ten(page, u64::from(stamp_number(stamp)));
     page.put_text(b" ticks");
 }
 
 pub fn put_stamp(page: &mut Page, stamp: Stamp)
     ensures { page.new ≡ put (stamp_text stamp) page.old }
 {
-    page.put_named(b"stamp ", u64_of_u32(stamp_number(stamp)));
+    page.put_named(b"stamp ", u64::from(stamp_number(stamp)));
     page.put_text(b" ticks");
 }
 
@@ -48,7 +47,7 @@ pub fn put_clock_column(page: &mut Page, clock: Nanos)
 pub fn put_difference(page: &mut Page, d: Ticks)
     ensures { page.new ≡ put (difference_text d) page.old }
 {
-    put_ten(page, u64_of_u32(ticks_number(d)));
+    put_ten(page, u64::from(ticks_number(d)));
     page.put_text(b" ticks = ");
     put_ten(page, nanos_number(in_nanos(d)));
     page.put_text(b" ns");
@@ -58,7 +57,7 @@ pub fn put_difference(page: &mut Page, d: Ticks)
 pub fn put_span(page: &mut Page, d: Ticks)
     ensures { page.new ≡ put (span_text d) page.old }
 {
-    page.put_decimal(u64_of_u32(ticks_number(d)));
+    page.put_decimal(u64::from(ticks_number(d)));
     page.put_named(b" ticks (", nanos_number(in_nanos(d)));
     page.put_text(b" ns)");
 }
@@ -125,6 +124,6 @@ pub fn put_advance(page: &mut Page, d: Ticks, k: usize)
     page.put_named(b"advance ", nanos_number(advance_at(d, k)));
     page.put_text(b" ns (");
     put_part(page, advance_count(d), k);
-    page.put_decimal(u64_of_u32(ticks_number(d)));
+    page.put_decimal(u64::from(ticks_number(d)));
     page.put_text(b" ticks)");
 }

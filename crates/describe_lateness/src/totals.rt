@@ -6,7 +6,6 @@ ghost use Rattle.text_line.specs.Page.{put};
 ghost use Rattle.describe_lateness.specs.Totals.{counts_text, range_text, refusal_text};
 
 use crate::signed::put_difference;
-use bits::u64_of_u32;
 use lateness::Report;
 use text_line::Page;
 
@@ -15,11 +14,11 @@ pub fn put_counts(page: &mut Page, r: Report)
     ensures { page.new ≡ put (counts_text r) page.old }
 {
     page.put_text(b"early ");
-    page.put_grouped(u64_of_u32(r.early));
+    page.put_grouped(u64::from(r.early));
     page.put_text(b", on time ");
-    page.put_grouped(u64_of_u32(r.on_time));
+    page.put_grouped(u64::from(r.on_time));
     page.put_text(b", late ");
-    page.put_grouped(u64_of_u32(r.late));
+    page.put_grouped(u64::from(r.late));
 }
 
 // The least and the greatest difference, and the sum.

@@ -6,7 +6,7 @@ ghost use Rattle.std.specs.Prelude.{◌≡◌};
 ghost use Rattle.text_line.specs.Page.{put};
 ghost use Rattle.describe_trace.specs.Answers.{wrong_state_text, bad_value_text, status_text, interrupts_text, count_text, data_of, reads_of, data_text, answer_text};
 
-use bits::{byte_at, u64_of_u8};
+use bits::byte_at;
 use describe_records::record_words::{kind_of, put_listed};
 use records::Record;
 use text_line::Page;
@@ -76,10 +76,10 @@ fn put_count(page: &mut Page, name: &[u8], n: u8)
 fn data_of(answer: &[u8]) -> u64
     ensures { result ≡ data_of answer.now }
 {
-    u64_of_u8(byte_at(answer, 4))
-        + 256 * u64_of_u8(byte_at(answer, 5))
-        + 65536 * u64_of_u8(byte_at(answer, 6))
-        + 16777216 * u64_of_u8(byte_at(answer, 7))
+    u64::from(byte_at(answer, 4))
+        + 256 * u64::from(byte_at(answer, 5))
+        + 65536 * u64::from(byte_at(answer, 6))
+        + 16777216 * u64::from(byte_at(answer, 7))
 }
 
 // Whether a record of this kind reads something: registers, the queue register, status bits.

@@ -43,6 +43,8 @@ pub struct UnitRead {
 // The line in front of a text: whether there is one, what it says, and how many bytes it has.
 #[derive(Clone, Copy)]
 pub struct LineRead {
+    // Kept: `sheet_text` shows a refused line by its slot and its times also where it does not fit, and they are 0 then, as
+    // specs/Layout.no_line says.
     pub fits: bool,
     pub line: SheetLine,
     pub size: usize,

@@ -1,3 +1,2 @@
 mod Loops
-mod Cases
 mod Examples

@@ -17,10 +17,6 @@ use Rattle.sheet_text.specs.Doubts.{slot_doubts, doubts_from}
 
 -- ---- any text
 
--- the same text, said in another way
-pub alike : {a b : List ℕ} (page : List ℕ) {q : List ℕ} → a ≡ b → q ≡ put a page → q ≡ put b page
-alike page e f = f ∙ ap (λ (t : List ℕ). put t page) e
-
 pub nothing : (page : List ℕ) → page ≡ put [] page
 nothing page = sym (put_nothing page)
 

@@ -10,7 +10,6 @@ ghost use Rattle.describe_sheet.specs.Comments.{time_comment};
 ghost use Rattle.sheet_text.specs.Lines.{ended};
 ghost use Rattle.sheet_text.specs.Cards.{front_text, times_text, comments_text, slot_text, slots_from, word_text, words_from, card_text};
 
-use bits::u64_of_usize;
 use describe_sheet::card_facts::{
     put_bus_fact, put_port_fact, put_queue_fact, put_slot_fact, put_slots_fact, put_word_fact,
 };
@@ -75,7 +74,7 @@ fn put_comments(page: &mut Page, slot: u64, l: LineRead, s: Slot)
 fn put_slot(page: &mut Page, slot: usize, text: &[u8], s: Slot)
     ensures { page.new ≡ put (slot_text slot (lines_of text.now) s) page.old }
 {
-    let number = u64_of_usize(slot);
+    let number = slot as u64;
     let l = line_naming(text, number);
     put_comments(page, number, l, s);
     put_slot_fact(page, slot, s);

@@ -8,7 +8,6 @@ ghost use Rattle.sheet_grammar.specs.Reading.{lines_of};
 ghost use Rattle.sheet_text.specs.Doubts.{time_doubt, times_doubts, slot_doubts, doubts_from, doubts_text};
 
 use crate::lines::put_name;
-use bits::u64_of_usize;
 use describe_sheet::doubts::put_doubt;
 use readiness::{Setup, Slot};
 use sheet::{doubt, line_naming};
@@ -68,7 +67,7 @@ fn put_each_slot(page: &mut Page, name: &[u8], before: [Slot; 32], after: [Slot;
     for i in 0..32 {
         let old = before[i];
         let new = after[i];
-        let number = u64_of_usize(i);
+        let number = i as u64;
         let l = line_naming(text, number);
         put_slot_doubts(page, name, number, l, old, new);
     }

@@ -5,4 +5,4 @@ use Rattle.describe_capture.proofs.fault_words.put_apart.Goals as goal
 
 pub returns : goal.returns
 unfolding apart_text
-returns c = simp (c.difference.ensures, c.ticks_number.ensures, c.u64_of_u32-forward.ensures.value, c.difference-2.ensures) at (then _ _ _ (then _ _ _ c.put_span.ensures c.put_named.ensures) c.put_text.ensures)
+returns c = simp (c.difference.ensures, c.ticks_number.ensures, c.from-forward.ensures, c.difference-2.ensures) at (then _ _ _ (then _ _ _ c.put_span.ensures c.put_named.ensures) c.put_text.ensures)

@@ -5,4 +5,4 @@ use Rattle.describe_lateness.proofs.totals.put_counts.Goals as goal
 
 pub returns : goal.returns
 unfolding counts_text
-returns c = simp (c.u64_of_u32-3.ensures.value, c.u64_of_u32-2.ensures.value, c.u64_of_u32.ensures.value) at (then _ _ _ (then _ _ _ (then _ _ _ (then _ _ _ (then _ _ _ c.put_text.ensures c.put_grouped.ensures) c.put_text-2.ensures) c.put_grouped-2.ensures) c.put_text-3.ensures) c.put_grouped-3.ensures)
+returns c = simp (c.from-3.ensures, c.from-2.ensures, c.from.ensures) at (then _ _ _ (then _ _ _ (then _ _ _ (then _ _ _ (then _ _ _ c.put_text.ensures c.put_grouped.ensures) c.put_text-2.ensures) c.put_grouped-2.ensures) c.put_text-3.ensures) c.put_grouped-3.ensures)

@@ -1,13 +1,8 @@
 -- `sheet_text::cards::put_slot` meets its contract.
 use Rattle.sheet_text.specs.Cards.{slot_text}
 use Rattle.text_line.proofs.Putting.{then}
-use Rattle.sheet_text.proofs.Loops.{alike}
-use Rattle.sheet_text.proofs.Cases.{slot_comments}
 use Rattle.sheet_text.proofs.cards.put_slot.Goals as goal
 
 pub returns : goal.returns
 unfolding slot_text
-returns c =
-    then _ _ _
-    (alike _ (slot_comments _ _ _ _ _ c.u64_of_usize-number.ensures.value c.line_naming-l.ensures) c.put_comments.ensures)
-    (then _ _ _ c.put_slot_fact.ensures c.put_byte.ensures)
+returns c = simp c.line_naming-l.ensures at (then _ _ _ c.put_comments.ensures (then _ _ _ c.put_slot_fact.ensures c.put_byte.ensures))

@@ -53,6 +53,6 @@ pub fn store(statuses: &mut [Status], array: [Status; 32])
     ensures { statuses.new ≡ stored_over statuses.old array }
 {
     for i in 0..statuses.len().min(32) {
-        statuses[i] = array[i];
+        replace_status(statuses, i, array[i]);
     }
 }

@@ -15,10 +15,10 @@ loop-slot-preserved c =
     let bytes = c.args.bytes.now in
     let low : l.slot < 32 = omega arith in
     elim c.match-moment_at.branch [
-      in-Some w ↦
-      subst (ReadTo (l.slot + 1) bytes) (sym (w.m-is ∙ w.note.ensures)) (one_more bytes l.m l.slot low l.invariant w.in-Some.time (sym c.moment_at.ensures ∙ w.in-Some.is))
+      | in-Some w ↦
+          subst (ReadTo (l.slot + 1) bytes) (sym (w.m-is ∙ w.note.ensures)) (one_more bytes l.m l.slot low l.invariant w.in-Some.time (sym c.moment_at.ensures ∙ w.in-Some.is))
       | in_default w ↦
-      subst (ReadTo (l.slot + 1) bytes) (sym w.m-is) (none_more bytes l.m l.slot low l.invariant (sym c.moment_at.ensures ∙ w.in_default.is))
+          subst (ReadTo (l.slot + 1) bytes) (sym w.m-is) (none_more bytes l.m l.slot low l.invariant (sym c.moment_at.ensures ∙ w.in_default.is))
     ]
 
 pub returns : goal.returns

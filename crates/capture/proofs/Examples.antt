@@ -161,7 +161,7 @@ consumed = refl
 held : (replay_calls lent begin cs).held
     ≡ record {
       port = record { state = 1140; carried = []; broken = false };
-      replay = record { earlier = Some (stamp 0x40000011); stamp_len = 4; stamp = 17 ∷ 0 ∷ 0 ∷ 0x40 ∷ []; answered = 0; ended = 33 };
+      replay = record { begun = true; earlier = stamp 0x40000011; stamp_len = 4; stamp = 17 ∷ 0 ∷ 0 ∷ 0x40 ∷ []; answered = 0; ended = 33 };
     }
 unfolding replay_calls replays stops_first refusal_with refusal matches end_fits replay_open kind_byte advancing byte begun due back between difference went_back in_nanos advances advance stamp_in known body size_of toy_run sum
 held = refl
@@ -190,7 +190,7 @@ unfolding replay_calls replays stops_first refusal_with refusal matches end_fits
 went_back_lem = refl
 
 went_back_left : (replay_calls lent begin backwards).held.replay
-    ≡ record { earlier = Some (stamp 16); stamp_len = 4; stamp = 15 ∷ 0 ∷ 0 ∷ 0 ∷ []; answered = 0; ended = 32 }
+    ≡ record { begun = true; earlier = stamp 16; stamp_len = 4; stamp = 15 ∷ 0 ∷ 0 ∷ 0 ∷ []; answered = 0; ended = 32 }
 unfolding replay_calls replays stops_first refusal_with refusal matches end_fits replay_open kind_byte advancing byte begun due back between difference went_back in_nanos advances advance stamp_in known body size_of toy_run sum
 went_back_left = refl
 
@@ -214,7 +214,7 @@ unfolding replay_calls replays stops_first refusal_with refusal matches end_fits
 other_outcomes = refl
 
 other_left : (replay_calls lent begin other).held.replay
-    ≡ record { earlier = Some (stamp 16); stamp_len = 4; stamp = 17 ∷ 0 ∷ 0 ∷ 0 ∷ []; answered = 1; ended = 33 }
+    ≡ record { begun = true; earlier = stamp 16; stamp_len = 4; stamp = 17 ∷ 0 ∷ 0 ∷ 0 ∷ []; answered = 1; ended = 33 }
 unfolding replay_calls replays stops_first refusal_with refusal matches end_fits replay_open kind_byte advancing byte begun due back between difference went_back in_nanos advances advance stamp_in known body size_of toy_run sum
 other_left = refl
 
@@ -230,7 +230,7 @@ unfolding replay_calls replays stops_first refusal_with refusal matches end_fits
 unmatched = refl
 
 -- five stamp bytes
-five_bytes : let h : Held (Bench ℕ) = record { port = port; replay = record { earlier = None; stamp_len = 5; stamp = replicate 4 0; answered = 0; ended = 0 } } in replay_calls lent h cs ≡ all_refused 5 h cs
+five_bytes : let h : Held (Bench ℕ) = record { port = port; replay = record { begun = false; earlier = stamp 0; stamp_len = 5; stamp = replicate 4 0; answered = 0; ended = 0 } } in replay_calls lent h cs ≡ all_refused 5 h cs
 unfolding replay_calls replays stops_first refusal_with refusal begun
 five_bytes = refl
 

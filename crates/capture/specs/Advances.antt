@@ -1,5 +1,5 @@
 -- The advances that two neighbouring stamps stand for (02, Q-5).
-use Rattle.std.specs.Prelude.{ℕ, ◌+◌, ◌-◌, ◌*◌, ◌/◌, ◌%◌, Bool, true, false, List, [], ◌∷◌, ◌++◌, length, leb, eqb, Option, Some, None}
+use Rattle.std.specs.Prelude.{ℕ, ◌+◌, ◌-◌, ◌*◌, ◌/◌, ◌%◌, Bool, false, List, [], ◌∷◌, ◌++◌, length, leb, eqb, Option, Some, None}
 use Rattle.bits.specs.Bytes.{byte_at}
 use Rattle.times.specs.declared.Nanos.{Nanos}
 use Rattle.ticks.specs.declared.Stamp.{Stamp}

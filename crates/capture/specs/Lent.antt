@@ -1,19 +1,25 @@
 -- A call of replay on what the caller lends and hands in: refusals, and every lent byte afterwards.
-use Rattle.std.specs.Prelude.{ℕ, ◌≡◌, Bool, true, ◌&&◌, List, ◌++◌, length, take, drop, leb}
+use Rattle.std.specs.Prelude.{ℕ, ◌≡◌, Bool, true, ◌&&◌, List, ◌++◌, length, take, drop, leb, None, Some, is_some}
+use Rattle.ticks.specs.declared.Stamp.{Stamp}
 use Rattle.trace.specs.Format.{when◌then◌else◌, pad}
 use Rattle.trace.specs.Outcome.{first}
 use Rattle.trace.specs.Bench.{Bench}
 use Rattle.trace.specs.Lent.{Lent, Left, unchanged, unless, refusal, Start}
 use Rattle.capture.specs.declared.Replay.{Replay}
+use Rattle.capture.specs.Advances.{Earlier}
 use Rattle.capture.specs.Capture.{Place}
 use Rattle.capture.specs.Replay.{Progress, Replayed, fresh, matches, replay_open}
 
 -- ---- The state of a replay as the code keeps it
+-- the stamp of the record before: the earlier stamp counts only if some record was begun
+abbrev pub earlier_of : Replay → Earlier
+earlier_of m = when m.begun then Some m.earlier else None
+
 -- what it stands for
 abbrev pub progress_in : Replay → Progress
 progress_in m =
     record {
-      earlier = m.earlier;
+      earlier = earlier_of m;
       stamp = take m.stamp_len m.stamp;
       answered = m.answered;
       ended = m.ended;
@@ -23,11 +29,16 @@ progress_in m =
 abbrev pub stamp_fits : Replay → Bool
 stamp_fits m = leb m.stamp_len 4
 
--- what a call leaves: stamp bytes past the count are 0
+abbrev pub stamp_or0 : Earlier → Stamp
+stamp_or0 None = record { 0 = 0 }
+stamp_or0 (Some e) = e
+
+-- what a call leaves: stamp bytes past the count are 0, and so is the earlier stamp if there is none
 abbrev pub replay_of : Progress → Replay
 replay_of r =
     record {
-      earlier = r.earlier;
+      begun = is_some r.earlier;
+      earlier = stamp_or0 r.earlier;
       stamp_len = length r.stamp;
       stamp = pad 4 r.stamp;
       answered = r.answered;

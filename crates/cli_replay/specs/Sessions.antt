@@ -1,9 +1,10 @@
 -- Where a replay stands: offsets in the file, how much ran, and what ended it early.
-use Rattle.std.specs.Prelude.{ℕ, ◌+◌, ◌-◌, ◌%◌, ◌^◌, Bool, ◌&&◌, cond, eqb, ltb, get_or, false, Option, Some, None, unwrap_or}
+use Rattle.std.specs.Prelude.{ℕ, ◌+◌, ◌-◌, ◌%◌, ◌^◌, Bool, ◌&&◌, cond, eqb, ltb, get_or, false, Option, Some, None}
 use Rattle.ticks.specs.declared.Stamp.{Stamp}
 use Rattle.ticks.specs.Ticks.{difference}
 use Rattle.trace.specs.Format.{size_of}
 use Rattle.capture.specs.Advances.{stamp_in}
+use Rattle.capture.specs.Lent.{earlier_of}
 use Rattle.capture_lines.specs.declared.CaptureFault.{CaptureFault}
 use Rattle.capture_lines.specs.Stamps.{advance_count}
 use Rattle.capture_lines.specs.Faults.{kind_fault, end_fault}
@@ -37,17 +38,17 @@ owes_after None s stamp = false
 owes_after (Some earlier) s stamp = eqb (carried_of s) 0 && ltb s.replay.answered (advance_count (difference earlier stamp))
 
 unfoldable pub owes_advance : ReplaySession → Stamp → Bool
-owes_advance s stamp = owes_after s.replay.earlier s stamp
+owes_advance s stamp = owes_after (earlier_of s.replay) s stamp
 
 -- ---- What ended it early
 -- the stamp of what is in hand: of a record, or else the stamp itself
 unfoldable pub stamp_in_hand : ReplaySession → Stamp
-stamp_in_hand s = cond (ltb 0 (carried_of s)) (unwrap_or s.replay.earlier (stamp_in s.replay.stamp)) (stamp_in s.replay.stamp)
+stamp_in_hand s = cond (ltb 0 (carried_of s)) s.replay.earlier (stamp_in s.replay.stamp)
 
 -- at a kind byte
 unfoldable pub fault_at_kind : ReplaySession → Option CaptureFault
 fault_at_kind s =
-    kind_fault s.replay.earlier (stamp_in s.replay.stamp) s.session.stopped_at (size_of s.session.stopped_at)
+    kind_fault (earlier_of s.replay) (stamp_in s.replay.stamp) s.session.stopped_at (size_of s.session.stopped_at)
 
 -- at the end of the file
 unfoldable pub fault_at_end : ReplaySession → Option CaptureFault

@@ -87,7 +87,7 @@ impl CaptureSource {
         let stamp = stamp_in(self.entry.stamp);
         let clock = after.port.dev.clock;
         let page = &mut printed.page;
-        if let Some(earlier) = replay.earlier
+        if let Some(earlier) = replay.before()
             && owes_advance(before, stamp)
         {
             let k = usize::from(replay.answered);

@@ -89,7 +89,7 @@ pub fn advances_run(s: ReplaySession) -> u64
 pub fn owes_advance(s: ReplaySession, stamp: Stamp) -> bool
     ensures { result ≡ owes_advance s stamp }
 {
-    match s.replay.earlier {
+    match s.replay.before() {
         Some(earlier) => {
             let due = advance_count(difference(earlier, stamp));
             carried_of(s) == 0 && usize::from(s.replay.answered) < due
@@ -107,7 +107,7 @@ fn fault_at_kind(s: ReplaySession) -> Option<CaptureFault>
     let replay = s.replay;
     let kind = s.session.stopped_at;
     let stamp = stamp_in(replay.stamp);
-    kind_fault(replay.earlier, stamp, kind, size_of(kind))
+    kind_fault(replay.before(), stamp, kind, size_of(kind))
 }
 
 // The stamp of what is in hand: of a record, or else the stamp itself.
@@ -115,11 +115,10 @@ fn fault_at_kind(s: ReplaySession) -> Option<CaptureFault>
 fn stamp_in_hand(s: ReplaySession) -> Stamp
     ensures { result ≡ stamp_in_hand s }
 {
-    let stamp = stamp_in(s.replay.stamp);
     if carried_of(s) > 0 {
-        s.replay.earlier.unwrap_or(stamp)
+        s.replay.earlier
     } else {
-        stamp
+        stamp_in(s.replay.stamp)
     }
 }
 

@@ -15,6 +15,7 @@ use Rattle.bits.proofs.Numbers.{by_le}
 use Rattle.times.specs.declared.Nanos.{Nanos}
 use Rattle.times.specs.Moments.{clock_end}
 use Rattle.readiness.specs.declared.Moments.{Moments}
+use Rattle.readiness.specs.MadeReady.{moments_of}
 use Rattle.lateness.specs.declared.Lateness.{Lateness}
 use Rattle.lateness.specs.declared.Lateness.TheVariants.{NoDifference, Of, Outside}
 use Rattle.lateness.specs.Lateness.{bench_time, minus, greatest_difference, within, apart, lateness_of, lateness_value}
@@ -25,7 +26,7 @@ use Rattle.lateness.proofs.Order.{no_way}
 -- ---- the bench time
 
 abbrev kept : Moments → ℕ → Option Nanos
-kept m slot = get_or m.by_slot slot None
+kept m slot = get_or (moments_of m) slot None
 
 pub past_count_lem : (slots : ℕ) (m : Moments) (slot : ℕ) → slots ≤ slot → bench_time slots m slot ≡ None
 unfolding bench_time

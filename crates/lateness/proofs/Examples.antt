@@ -1,5 +1,7 @@
 -- Worked examples, which antt computes.
 use Rattle.times.specs.declared.Nanos.{Nanos}
+use Rattle.bits.specs.Bits.{bit}
+use Rattle.readiness.specs.MadeReady.{moments_from}
 use Rattle.std.specs.Prelude.{Option, None, Some}
 use mathlib.Core.Path.{◌≡◌, refl}
 use mathlib.Core.List.{[], ◌∷◌, ◌++◌}
@@ -76,14 +78,14 @@ refused_value = refl
 -- ---- the bench time: slots 0 and 2 were made Ready, at 40 ns and at 80 ns
 
 abbrev kept : Moments
-kept = record { by_slot = at 40 ∷ None ∷ at 80 ∷ replicate 29 None }
+kept = record { made = 5; at_ns = 40 ∷ 0 ∷ 80 ∷ replicate 29 0 }
 
 of_slot_2 : bench_time 3 kept 2 ≡ at 80
-unfolding bench_time
+unfolding bench_time moments_from bit
 of_slot_2 = refl
 
 never-ready : bench_time 3 kept 1 ≡ None
-unfolding bench_time
+unfolding bench_time moments_from bit
 never-ready = refl
 
 -- on a card of two slots there is no slot 2

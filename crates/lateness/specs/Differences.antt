@@ -4,6 +4,7 @@ use Rattle.std.specs.Int.Signed.{lt_z}
 use Rattle.times.specs.declared.Nanos.{Nanos}
 use Rattle.times.specs.Moments.{clock_end}
 use Rattle.readiness.specs.declared.Moments.{Moments}
+use Rattle.readiness.specs.MadeReady.{moments_of}
 use Rattle.lateness.specs.declared.Lateness.{Lateness}
 use Rattle.lateness.specs.declared.Lateness.TheVariants.{NoDifference, Of, Outside}
 use Rattle.lateness.specs.Lateness.{bench_time, minus, lateness_of}
@@ -11,7 +12,7 @@ use Rattle.lateness.specs.Lateness.{bench_time, minus, lateness_of}
 -- THE STATEMENT of the bench time
 pub record BenchTimes : Type 0 where
   -- a slot of the card has the moment that the replay keeps
-  pub kept : (slots : ℕ) (m : Moments) (slot : ℕ) → slot < slots → slot < 32 → bench_time slots m slot ≡ get_or m.by_slot slot None
+  pub kept : (slots : ℕ) (m : Moments) (slot : ℕ) → slot < slots → slot < 32 → bench_time slots m slot ≡ get_or (moments_of m) slot None
   -- another has none, and so no difference, whatever was seen
   pub past_count : (slots : ℕ) (m : Moments) (slot : ℕ) (seen : Option Nanos) → slots ≤ slot → lateness_of (bench_time slots m slot) seen ≡ NoDifference
   pub past32 : (slots : ℕ) (m : Moments) (slot : ℕ) (seen : Option Nanos) → 32 ≤ slot → lateness_of (bench_time slots m slot) seen ≡ NoDifference

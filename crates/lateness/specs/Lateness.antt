@@ -2,12 +2,13 @@
 use Rattle.times.specs.declared.Nanos.{Nanos}
 use Rattle.std.specs.Prelude.{ℕ, Bool, cond, leb, get_or, ℤ, pos, nat_abs, ◌-ℤ◌, Option, None, Some}
 use Rattle.readiness.specs.declared.Moments.{Moments}
+use Rattle.readiness.specs.MadeReady.{moments_of}
 use Rattle.lateness.specs.declared.Lateness.{Lateness}
 use Rattle.lateness.specs.declared.Lateness.TheVariants.{NoDifference, Of, Outside}
 
 -- THE BENCH TIME of a slot is when the replay last made it Ready; a slot that isn't below the count, or not below 32, has none
 unfoldable pub bench_time : (slots : ℕ) → Moments → (slot : ℕ) → Option Nanos
-bench_time slots m slot = cond (leb slots slot) None (cond (leb 32 slot) None (get_or m.by_slot slot None))
+bench_time slots m slot = cond (leb slots slot) None (cond (leb 32 slot) None (get_or (moments_of m) slot None))
 
 -- the seen time minus the bench time: negative if the card was early
 abbrev pub minus : (seen bench : ℕ) → ℤ

@@ -17,7 +17,7 @@ pub fn bench_time(slots: usize, moments: Moments, slot: usize) -> Option<Nanos>
     if slots <= slot || 32 <= slot {
         return None;
     }
-    moments.by_slot[slot]
+    moments.moment(slot)
 }
 
 // The seen time minus the bench time, both in nanoseconds.

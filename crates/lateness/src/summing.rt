@@ -27,7 +27,7 @@ fn is_within(d: i64) -> bool
 fn all_within(list: &[i64]) -> bool
     ensures { result ≡ all_within list.now }
 {
-    list.iter().all(|d| is_within(*d))
+    list.iter().rev().all(|d| is_within(*d))
 }
 
 // ---- What one difference adds

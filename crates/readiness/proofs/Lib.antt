@@ -10,3 +10,4 @@ pub mod TwoAdvances
 pub mod Bounds
 pub mod PhaseNumbers
 pub mod KeptMoments
+pub mod SlotMoments

@@ -2,10 +2,11 @@
 // what arrives at the root port then.
 #![tactic(auto)]
 
-ghost use Rattle.std.specs.Prelude.{◌≡◌, replicate};
+ghost use Rattle.std.specs.Prelude.{◌≡◌, ◌<◌, get_or, replicate, None};
+ghost use Rattle.bits.specs.Bits.{bit};
 ghost use Rattle.readiness.specs.Blank.{blank_control, blank_queue, blank_dev, blank_slot, blank_setup};
 ghost use Rattle.readiness.specs.Status.{down};
-ghost use Rattle.readiness.specs.MadeReady.{no_moments};
+ghost use Rattle.readiness.specs.MadeReady.{moments_of, no_moments, with_moment, with_bit};
 
 use frs_queue::{Queue, Tally};
 use times::{Code, Nanos};
@@ -84,10 +85,53 @@ pub struct SlotSettled {
     pub made: Option<Nanos>,
 }
 
-// For each of 32 slots the moment at which it was last made Ready, if it was.
+// For each of 32 slots the moment, in nanoseconds, at which it was last made Ready; a bit of `made` says for each slot whether there is one.
+// Kept: a caller lends any numbers here, also where there is no moment.
 #[derive(Clone, Copy)]
 pub struct Moments {
-    pub by_slot: [Option<Nanos>; 32],
+    pub made: u32,
+    pub at_ns: [u64; 32],
+}
+
+// Whether a word has bit k.
+#[tactic(auto, unfolding(bits::specs::Bits::bit))]
+fn has_bit(word: u32, k: usize) -> bool
+    requires { k < 32 }
+    ensures { result ≡ bit word k }
+{
+    (word >> k) % 2 == 1
+}
+
+// A word with bit k set.
+#[tactic(auto, using(crate::proofs::SlotMoments::with_bit_lem))]
+fn with_bit(word: u32, k: usize) -> u32
+    requires { k < 32 }
+    ensures { result ≡ with_bit word k }
+{
+    word | (1u32 << k)
+}
+
+impl Moments {
+    // The moment of a slot, if it was made Ready; a slot that isn't below 32 has none.
+    #[tactic(auto, using(crate::proofs::SlotMoments::there, crate::proofs::SlotMoments::not_there, crate::proofs::SlotMoments::past_32))]
+    pub fn moment(&self, slot: usize) -> Option<Nanos>
+        ensures { result ≡ get_or (moments_of self.now) slot None }
+    {
+        if slot < 32 && has_bit(self.made, slot) {
+            Some(times::nanos_of(self.at_ns[slot]))
+        } else {
+            None
+        }
+    }
+
+    // A slot becomes Ready at this moment.
+    pub fn note(&mut self, slot: usize, time: Nanos)
+        requires { slot < 32 }
+        ensures { self.new ≡ with_moment slot time self.old }
+    {
+        self.made = with_bit(self.made, slot);
+        self.at_ns[slot] = times::nanos_number(time);
+    }
 }
 
 // ---- Blank values: every number 0, every bit off, every slot Down
@@ -161,6 +205,7 @@ pub fn no_moments() -> Moments
     ensures { result ≡ no_moments }
 {
     Moments {
-        by_slot: [None; 32],
+        made: 0,
+        at_ns: [0; 32],
     }
 }

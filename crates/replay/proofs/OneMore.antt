@@ -28,7 +28,7 @@ use Rattle.decode.proofs.Fields.{kind_at_lem}
 use Rattle.capture.specs.declared.Replay.{Replay}
 use Rattle.capture.specs.Advances.{Earlier, due, advance, advance_bytes}
 use Rattle.capture.specs.Replay.{Progress, after_entry, later, replay_open}
-use Rattle.capture.specs.Lent.{progress_in}
+use Rattle.capture.specs.Lent.{earlier_of, progress_in}
 use Rattle.capture.specs.Calls.{blank}
 use Rattle.capture.proofs.Advancing.{due_few, due_none}
 use Rattle.capture.proofs.Steps.{later-zero, later-later}
@@ -46,7 +46,7 @@ before_is false e stamp h = cc
 
 pub stands_after : (r : Replay) (stamp : Stamp) → Between r → stamp_before r ≡ Some stamp → progress_in r ≡ after_entry stamp
 stands_after r stamp b e =
-    let is = before_is (eqb r.stamp_len 0 && eqb r.ended 0) r.earlier stamp e in
+    let is = before_is (eqb r.stamp_len 0 && eqb r.ended 0) (earlier_of r) stamp e in
     let len : r.stamp_len ≡ 0 = eqb-true r.stamp_len 0 (both_left (eqb r.stamp_len 0) (eqb r.ended 0) is.0) in
     let none_there : take r.stamp_len r.stamp ≡ [] = ap (λ (n : ℕ). take n r.stamp) len in
     let none_answered : r.answered ≡ 0 = omega (arith, b.answered, ap length (due_none (progress_in r).earlier (progress_in r).stamp (omega (arith, ap length none_there)))) in

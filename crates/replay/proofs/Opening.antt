@@ -15,6 +15,7 @@ use Rattle.trace.proofs.Gathering.{begun_partial}
 use Rattle.bits.proofs.Tests.{both_left, both_right}
 use Rattle.readiness.specs.declared.Status.{Status}
 use Rattle.readiness.specs.declared.Setup.{Setup}
+use Rattle.readiness.specs.MadeReady.{moments_of}
 use Rattle.readiness.specs.inner.Phases.{statuses_in}
 use Rattle.records.specs.declared.Port.{Port}
 use Rattle.records.specs.State.{State}
@@ -121,11 +122,11 @@ pub in_place_lent : (setup : Setup) (defaults : List ℕ) (n k : ℕ) (phases : 
     → k ≡ 4 * n → k ≤ length phases → length lent' ≡ k
     → left_kept_in_place r lent' live' cells' answers' ≡ replays_noting setup defaults (held_noting (held_in port (take k phases) live cells) kept m) input answers
     → ◌≡◌ {A = Left HeldNoting}
-    (record { number = r.number; consumed = r.consumed; written = r.written; held = held_noting (held r.port (lent_of n (statuses_in (lent' ++ after))) live' cells') r.moments.by_slot r.replay; answers = answers' })
+    (record { number = r.number; consumed = r.consumed; written = r.written; held = held_noting (held r.port (lent_of n (statuses_in (lent' ++ after))) live' cells') (moments_of r.moments) r.replay; answers = answers' })
     (replays_noting setup defaults (held_noting (held port (lent_of n (statuses_in phases)) live cells) kept m) input answers)
 in_place_lent setup defaults n k phases port live cells m kept input answers r lent' after live' cells' answers' e h j x =
     ap {B = Left HeldNoting}
-    (λ (l : List Status). record { number = r.number; consumed = r.consumed; written = r.written; held = held_noting (held r.port l live' cells') r.moments.by_slot r.replay; answers = answers' })
+    (λ (l : List Status). record { number = r.number; consumed = r.consumed; written = r.written; held = held_noting (held r.port l live' cells') (moments_of r.moments) r.replay; answers = answers' })
     (numbers-lent n lent' after (j ∙ e))
     ∙ x
     ∙ ap (λ (l : List Status). replays_noting setup defaults (held_noting (held port l live cells) kept m) input answers) (lent-numbers n k phases e h)

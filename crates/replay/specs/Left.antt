@@ -2,6 +2,7 @@
 use Rattle.times.specs.declared.Nanos.{Nanos}
 use Rattle.std.specs.Prelude.{ℕ, List, Option}
 use Rattle.trace.specs.Lent.{Left}
+use Rattle.readiness.specs.MadeReady.{moments_of}
 use Rattle.readiness.specs.inner.Phases.{moments_in, moments_with}
 use Rattle.demand3.specs.Held.{held, lent_of}
 use Rattle.set_up.specs.Lent.{held_in}
@@ -39,10 +40,10 @@ left_in_place r phases live cells answers =
 
 -- the same with the moments
 abbrev pub left_kept : ℕ → Replayed → (live cells answers : List ℕ) → Left HeldNoting
-left_kept n r live cells answers = with_moments (left n r live cells answers) r.moments.by_slot
+left_kept n r live cells answers = with_moments (left n r live cells answers) (moments_of r.moments)
 
 abbrev pub left_kept_in_place : ReplayedInPlace → (phases live cells answers : List ℕ) → Left HeldNoting
-left_kept_in_place r phases live cells answers = with_moments (left_in_place r phases live cells answers) r.moments.by_slot
+left_kept_in_place r phases live cells answers = with_moments (left_in_place r phases live cells answers) (moments_of r.moments)
 
 -- what the entries of a call give, with the moments of before the call and those of the numbers
 abbrev pub left_noting : List (Option Nanos) → ReplayedPort → (phases live cells answers : List ℕ) → Left HeldNoting

@@ -13,6 +13,7 @@ ghost use Rattle.capture.specs.Lent.{stops_first};
 ghost use Rattle.demand3.specs.Held.{held, lent_of};
 ghost use Rattle.demand3.specs.Feeding.{bench};
 ghost use Rattle.set_up.specs.Lent.{held_in};
+ghost use Rattle.readiness.specs.MadeReady.{moments_of};
 ghost use Rattle.replay_rules.specs.Replaying.{held_with, replays};
 ghost use Rattle.replay_rules.specs.KeepingMoments.{held_noting, replays_noting};
 ghost use Rattle.replay.specs.Left.{left, left_in_place, left_kept, left_kept_in_place};
@@ -150,7 +151,7 @@ pub fn replay_in_place(
     ensures answers_after { left_in_place result phases.new live.new cells.new answers.new
         ≡ replays setup defaults.now (held_with (held_in port phases.old live.old cells.old) state) input.now answers.old }
     ensures answers_after_2 { left_kept_in_place result phases.new live.new cells.new answers.new
-        ≡ replays_noting setup defaults.now (held_noting (held_in port phases.old live.old cells.old) moments.by_slot state) input.now answers.old }
+        ≡ replays_noting setup defaults.now (held_noting (held_in port phases.old live.old cells.old) (moments_of moments) state) input.now answers.old }
 {
     let number = stops(setup, port, phases, live.len(), defaults, cells, state);
     if number != 0 {
@@ -204,7 +205,7 @@ pub fn replay(
     ensures answers_after { left lent result live.new cells.new answers.new
         ≡ replays setup defaults.now (held_with (held port (lent_of lent statuses) live.old cells.old) state) input.now answers.old }
     ensures answers_after_2 { left_kept lent result live.new cells.new answers.new
-        ≡ replays_noting setup defaults.now (held_noting (held port (lent_of lent statuses) live.old cells.old) moments.by_slot state) input.now answers.old }
+        ≡ replays_noting setup defaults.now (held_noting (held port (lent_of lent statuses) live.old cells.old) (moments_of moments) state) input.now answers.old }
 {
     if 32 < lent {
         return Replayed {

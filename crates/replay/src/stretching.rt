@@ -16,7 +16,7 @@ fn stamp_before(r: Replay) -> Option<Stamp>
     ensures { result ≡ stamp_before r }
 {
     if r.stamp_len == 0 && r.ended == 0 {
-        r.earlier
+        r.before()
     } else {
         None
     }

@@ -4,7 +4,6 @@ use mathlib.Core.Path.{◌≡◌, refl}
 use mathlib.Core.Bool.{true, false}
 use mathlib.Core.List.{List, [], ◌∷◌}
 use lib.ListN.{set}
-use Rattle.std.specs.Prelude.{Some, None}
 use Rattle.bits.specs.Lists.{listed}
 use Rattle.capture.specs.declared.Replay.{Replay}
 use Rattle.state_layout.specs.Numbers.{low_first, number_of, number_at}
@@ -16,7 +15,8 @@ use Rattle.replay_image.specs.Image.{replay_bytes, is_good, replay_in}
 abbrev replay : Replay
 replay =
     record {
-      earlier = Some (record { 0 = 0x01020304 });
+      begun = true;
+      earlier = record { 0 = 0x01020304 };
       stamp_len = 3;
       stamp = 0xAA ∷ 0xBB ∷ 0xCC ∷ 0xDD ∷ [];
       answered = 7;
@@ -32,24 +32,24 @@ written = refl
 
 -- a byte past the count is ignored
 read : replay_in (set image 9 0xDD)
-    ≡ record { earlier = Some (record { 0 = 0x01020304 }); stamp_len = 3; stamp = 0xAA ∷ 0xBB ∷ 0xCC ∷ 0 ∷ []; answered = 7; ended = 9 }
+    ≡ record { begun = true; earlier = record { 0 = 0x01020304 }; stamp_len = 3; stamp = 0xAA ∷ 0xBB ∷ 0xCC ∷ 0 ∷ []; answered = 7; ended = 9 }
 unfolding replay_in up_to number_at number_of bytes_from listed
 read = refl
 
--- before the first record an earlier stamp is ignored, and 0 is written; any count may be lent, and from 4 on all bytes are there
+-- before the first record an earlier stamp is ignored, and not written; any count may be lent, and from 4 on all bytes are there
 abbrev unbegun : Replay
-unbegun = record { earlier = None; stamp_len = 255; stamp = 0xAA ∷ 0xBB ∷ 0xCC ∷ 0 ∷ []; answered = 7; ended = 9 }
+unbegun = record { begun = false; earlier = record { 0 = 0 }; stamp_len = 255; stamp = 0xAA ∷ 0xBB ∷ 0xCC ∷ 0 ∷ []; answered = 7; ended = 9 }
 
 read_unbegun : replay_in (set (set image 0 0) 5 255) ≡ unbegun
 unfolding replay_in up_to number_at number_of bytes_from listed
 read_unbegun = refl
 
-written_unbegun : replay_bytes (record { earlier = None; stamp_len = 3; stamp = 0xAA ∷ 0xBB ∷ 0xCC ∷ 0xDD ∷ []; answered = 7; ended = 9 })
+written_unbegun : replay_bytes (record { begun = false; earlier = record { 0 = 0x01020304 }; stamp_len = 3; stamp = 0xAA ∷ 0xBB ∷ 0xCC ∷ 0xDD ∷ []; answered = 7; ended = 9 })
     ≡ 0 ∷ 0 ∷ 0 ∷ 0 ∷ 0 ∷ 3 ∷ 0xAA ∷ 0xBB ∷ 0xCC ∷ 0 ∷ 7 ∷ 9 ∷ []
 unfolding replay_bytes up_to low_first
 written_unbegun = refl
 
--- the first byte above 1 is bad, and no other byte is
+-- begun above 1 is bad, and no other byte is
 good : is_good (set (set (set image 5 255) 10 255) 11 255) ≡ true
 unfolding is_good
 good = refl

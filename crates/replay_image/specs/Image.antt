@@ -4,6 +4,7 @@ use Rattle.bits.specs.Bits.{one}
 use Rattle.bits.specs.Bytes.{byte_at}
 use Rattle.ticks.specs.declared.Stamp.{Stamp}
 use Rattle.capture.specs.declared.Replay.{Replay}
+use Rattle.capture.specs.Lent.{earlier_of, stamp_or0}
 use Rattle.state_layout.specs.Numbers.{low_first, number_at, yes}
 use Rattle.state_layout.specs.Image.{up_to}
 use Rattle.state_layout.specs.Reading.{yes_or_no, bytes_from}
@@ -16,12 +17,12 @@ number_or0 (Some stamp) = stamp.0
 
 -- the earlier stamp
 abbrev pub earlier_number : Replay → ℕ
-earlier_number r = number_or0 r.earlier
+earlier_number r = number_or0 (earlier_of r)
 
 -- THE REPLAY: whether there is an earlier stamp; the earlier stamp; count of stamp bytes taken; the stamp bytes, past the count as 0; advances answered; ended
 unfoldable pub replay_bytes : Replay → List ℕ
 replay_bytes r =
-    one (is_some r.earlier)
+    one (is_some (earlier_of r))
     ∷ low_first 4 (earlier_number r)
     ++ low_first 1 r.stamp_len
     ++ up_to r.stamp_len r.stamp
@@ -45,4 +46,4 @@ stamp_bytes_in l = up_to (byte_at l 5) (bytes_from 4 6 l)
 -- THE REPLAY
 unfoldable pub replay_in : List ℕ → Replay
 replay_in l =
-    record { earlier = earlier_in l; stamp_len = byte_at l 5; stamp = stamp_bytes_in l; answered = byte_at l 10; ended = byte_at l 11 }
+    record { begun = is_some (earlier_in l); earlier = stamp_or0 (earlier_in l); stamp_len = byte_at l 5; stamp = stamp_bytes_in l; answered = byte_at l 10; ended = byte_at l 11 }

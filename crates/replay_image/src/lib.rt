@@ -34,7 +34,7 @@ fn up_to(count: usize, stamp: [u8; 4]) -> [u8; 4]
 fn earlier_number(r: Replay) -> u64
     ensures { result ≡ earlier_number r }
 {
-    match r.earlier {
+    match r.before() {
         Some(stamp) => u64::from(ticks::stamp_number(stamp)),
         None => 0,
     }
@@ -55,7 +55,7 @@ pub fn put_replay(bytes: &mut [u8], r: Replay)
     ensures { bytes.new ≡ sets bytes.old 0 (replay_bytes r) }
 {
     let stamp = r.stamp;
-    put_bool(&mut *bytes, 0, r.earlier.is_some());
+    put_bool(&mut *bytes, 0, r.before().is_some());
     put_four(&mut *bytes, 1, earlier_number(r));
     put(&mut *bytes, 5, (r.stamp_len % 256) as u8);
     put_stamp(&mut *bytes, up_to(r.stamp_len, stamp));
@@ -100,8 +100,10 @@ fn stamp_bytes_in(bytes: &[u8]) -> [u8; 4]
 pub fn replay_in(bytes: &[u8]) -> Replay
     ensures { result ≡ replay_in bytes.now }
 {
+    let earlier = earlier_in(bytes);
     Replay {
-        earlier: earlier_in(bytes),
+        begun: earlier.is_some(),
+        earlier: earlier.unwrap_or(ticks::stamp_of(0)),
         stamp_len: usize::from(byte_at(bytes, 5)),
         stamp: stamp_bytes_in(bytes),
         answered: byte_at(bytes, 10),

@@ -1,6 +1,7 @@
 // The moments that a replay keeps as bytes, nine for each of 32 slots: whether there is one, and when. Seen times have the same layout.
 ghost use Rattle.std.specs.Prelude.{◌≡◌, ◌<◌};
 ghost use Rattle.std.proofs.lemmas.List.Edits.{sets};
+ghost use Rattle.readiness.specs.MadeReady.{moments_of};
 ghost use Rattle.replay_image.specs.Moments.{moment_at, moment_bytes, moments_bytes, good_moments, moments_read};
 
 use readiness::{Moments, no_moments};
@@ -33,10 +34,10 @@ fn put_moment(bytes: &mut [u8], at: usize, moment: Option<Nanos>)
 
 // The moments of 32 slots, at the front.
 pub fn put_moments(bytes: &mut [u8], m: Moments)
-    ensures { bytes.new ≡ sets bytes.old 0 (moments_bytes m.by_slot) }
+    ensures { bytes.new ≡ sets bytes.old 0 (moments_bytes (moments_of m)) }
 {
     for i in 0..32 {
-        put_moment(&mut *bytes, 9 * i, m.by_slot[i]);
+        put_moment(&mut *bytes, 9 * i, m.moment(i));
     }
 }
 
@@ -69,11 +70,13 @@ fn moment_at(bytes: &[u8], slot: usize) -> Option<Nanos>
 
 // The moments of 32 slots.
 pub fn moments_in(bytes: &[u8]) -> Moments
-    ensures { result.by_slot ≡ moments_read bytes.now }
+    ensures { moments_of result ≡ moments_read bytes.now }
 {
     let mut m = no_moments();
     for slot in 0..32 {
-        m.by_slot[slot] = moment_at(bytes, slot);
+        if let Some(time) = moment_at(bytes, slot) {
+            m.note(slot, time);
+        }
     }
     m
 }

@@ -12,7 +12,7 @@ use Rattle.bits.proofs.Tests.{truth}
 use Rattle.capture.specs.declared.Replay.{Replay}
 use Rattle.capture.specs.Advances.{due}
 use Rattle.capture.specs.Replay.{end_fits, matches}
-use Rattle.capture.specs.Lent.{progress_in, stamp_fits}
+use Rattle.capture.specs.Lent.{earlier_of, progress_in, stamp_fits}
 use Rattle.replay_state.proofs.Moves.{bytes_there}
 
 -- ---- the port's carried bytes
@@ -37,11 +37,11 @@ module _ (r : Replay) where
     -- some
     pub in_record : (c : List ℕ) (len : ℕ) → 0 < length c → (len ≡ 0 → ⊥)
         → (stamp_fits r && matches (take len c) (progress_in r))
-        ≡ (is_some r.earlier && eqb r.stamp_len 0 && eqb r.answered 0 && eqb r.ended 0 && not (eqb (get_or c 0 0) 1))
+        ≡ (is_some (earlier_of r) && eqb r.stamp_len 0 && eqb r.answered 0 && eqb r.ended 0 && not (eqb (get_or c 0 0) 1))
     unfolding matches
     in_record c zero g e = absurd (e refl)
     in_record [] (suc n) g e = absurd (omega arith)
     in_record (k ∷ c) (suc n) g e =
         ap (λ (t : Bool). t && matches (k ∷ take n c) (progress_in r)) fits
-        ∙ ap (λ (n : ℕ). is_some r.earlier && (eqb n 0 && (eqb r.answered 0 && (eqb r.ended 0 && not (eqb k 1))))) (bytes_there r l h)
-        ∙ truth 5 (λ a b c d e. a && (b && (c && (d && e)))) (λ a b c d e. a && b && c && d && e) tt (is_some r.earlier) (eqb r.stamp_len 0) (eqb r.answered 0) (eqb r.ended 0) (not (eqb k 1))
+        ∙ ap (λ (n : ℕ). is_some (earlier_of r) && (eqb n 0 && (eqb r.answered 0 && (eqb r.ended 0 && not (eqb k 1))))) (bytes_there r l h)
+        ∙ truth 5 (λ a b c d e. a && (b && (c && (d && e)))) (λ a b c d e. a && b && c && d && e) tt (is_some (earlier_of r)) (eqb r.stamp_len 0) (eqb r.answered 0) (eqb r.ended 0) (not (eqb k 1))

@@ -14,8 +14,8 @@ use Rattle.replay_state.specs.inner.Moves.{Tidy, more_bytes}
 
 -- ---- a tidy state with one part changed
 pub stamped_so : (r : Replay) (bs s : List ℕ) (n : ℕ) → Tidy r → n ≡ length ((progress_in r).stamp ++ bs) → s ≡ pad 4 ((progress_in r).stamp ++ bs)
-    → record { earlier = r.earlier; stamp_len = n; stamp = s; answered = r.answered; ended = r.ended } ≡ replay_of (more_bytes bs (progress_in r))
-stamped_so r bs s n t e f = λ i. record { earlier = (t i).earlier; stamp_len = e i; stamp = f i; answered = r.answered; ended = r.ended }
+    → record { begun = r.begun; earlier = r.earlier; stamp_len = n; stamp = s; answered = r.answered; ended = r.ended } ≡ replay_of (more_bytes bs (progress_in r))
+stamped_so r bs s n t e f = λ i. record { begun = (t i).begun; earlier = (t i).earlier; stamp_len = e i; stamp = f i; answered = r.answered; ended = r.ended }
 
 -- ---- the bytes of a stamp, and all of them
 pub bytes_there : (r : Replay) → length r.stamp ≡ 4 → r.stamp_len ≤ 4 → length (progress_in r).stamp ≡ r.stamp_len

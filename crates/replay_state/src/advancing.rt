@@ -59,7 +59,7 @@ pub fn goes_back(r: Replay) -> bool
     requires { r.stamp_len ≡ 4 }
     ensures { result ≡ back (progress_in r).earlier (stamp_in (progress_in r).stamp) }
 {
-    match r.earlier {
+    match r.before() {
         Some(earlier) => ticks::went_back(ticks::difference(earlier, stamp_in(r.stamp))),
         None => false,
     }
@@ -71,7 +71,7 @@ pub fn due_of(r: Replay) -> Due
     requires { r.stamp_len ≤ 4 }
     ensures { result ≡ due_of (due (progress_in r).earlier (progress_in r).stamp) }
 {
-    let Some(earlier) = r.earlier else {
+    let Some(earlier) = r.before() else {
         return Due::Nothing;
     };
     if r.stamp_len != 4 {

@@ -33,7 +33,7 @@ pub fn matches(carried: [u8; 16], len: usize, r: Replay) -> bool
     } else if len == 0 {
         r.answered <= due_of(r).count() && end_fits(r)
     } else {
-        r.earlier.is_some()
+        r.before().is_some()
             && r.stamp_len == 0
             && r.answered == 0
             && r.ended == 0

@@ -14,7 +14,8 @@ pub fn fresh() -> Replay
     ensures { result ≡ replay_of fresh_progress }
 {
     Replay {
-        earlier: None,
+        begun: false,
+        earlier: ticks::stamp_of(0),
         stamp_len: 0,
         stamp: [0u8; 4],
         answered: 0,
@@ -42,15 +43,25 @@ fn first_of(bytes: [u8; 4], n: usize) -> [u8; 4]
     first
 }
 
-// The same state, with 0 where it says nothing: the bytes past those of the stamp.
+// The same state, with 0 where it says nothing: the earlier stamp where no record was taken, and the bytes past those of the stamp.
 pub fn tidy(r: Replay) -> Replay
     requires { stamp_fits r ≡ true }
     ensures { result ≡ replay_of (progress_in r) }
 {
     Replay {
+        earlier: r.before().unwrap_or(ticks::stamp_of(0)),
         stamp: first_of(r.stamp, r.stamp_len),
         ..r
     }
+}
+
+// Four bytes that stand in the input from `at` on.
+#[tactic(auto, using(crate::proofs::Moves::four_at))]
+fn whole_stamp(input: &[u8], at: usize) -> [u8; 4]
+    requires { at + 4 ≤ length input.now }
+    ensures { result ≡ take 4 (drop at input.now) }
+{
+    [input[at], input[at + 1], input[at + 2], input[at + 3]]
 }
 
 // The stamp whose four bytes stand in the input from `at` on.
@@ -58,7 +69,7 @@ pub fn stamp_at(input: &[u8], at: usize) -> Stamp
     requires { at + 4 ≤ length input.now }
     ensures { result ≡ stamp_in (take 4 (drop at input.now)) }
 {
-    stamp_in([input[at], input[at + 1], input[at + 2], input[at + 3]])
+    stamp_in(whole_stamp(input, at))
 }
 
 // The bytes of the input from `at` on join those of the stamp, until it has four or the input ends.
@@ -67,6 +78,13 @@ pub fn with_stamp(r: Replay, input: &[u8], at: usize) -> Replay
     requires stamp_len_bound { (r.stamp_len ≤ 4) × (at ≤ length input.now) }
     ensures { result ≡ replay_of (more_bytes (take (4 - r.stamp_len) (drop at input.now)) (progress_in r)) }
 {
+    if r.stamp_len == 0 && 4 <= input.len() - at {
+        return Replay {
+            stamp_len: 4,
+            stamp: whole_stamp(input, at),
+            ..r
+        };
+    }
     let more = (4 - r.stamp_len).min(input.len() - at);
     let stamp_len = r.stamp_len + more;
     let mut stamp = r.stamp;
@@ -107,7 +125,8 @@ pub fn after_entry(stamp: Stamp) -> Replay
     ensures { result ≡ replay_of (after_entry stamp) }
 {
     Replay {
-        earlier: Some(stamp),
+        begun: true,
+        earlier: stamp,
         stamp_len: 0,
         stamp: [0u8; 4],
         answered: 0,

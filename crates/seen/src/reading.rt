@@ -66,7 +66,7 @@ fn with_time(l: SeenLine, m: Moments) -> Moments
     ensures { result ≡ with_time l m }
 {
     let mut times = m;
-    times.by_slot[l.slot as usize] = Some(claimed_nanos(l.time));
+    times.note(l.slot as usize, claimed_nanos(l.time));
     times
 }
 

@@ -7,15 +7,17 @@ use mathlib.Core.Bool.{Bool, true, false, cond}
 use mathlib.Core.List.{List}
 use native.Mathlib.Omega.{arith}
 use lib.Dec.{eqb}
-use lib.ListN.{length, get_or, length-set, length-replicate, get_or-replicate}
+use lib.ListN.{length, get_or, set, length-set, length-replicate}
 use lib.Seq.{get_or-set_same, get_or-set_other}
 use borrow.Author.Tests.{eqb-true, eqb-false, ltb-true, ltb-false, lt-ltb}
+use Rattle.bits.proofs.Bits.{bit_none}
 use Rattle.bits.proofs.Tests.{split}
 use Rattle.times.specs.declared.ClaimedTime.{ClaimedTime}
 use Rattle.times.specs.Moments.{greatest_nanos}
 use Rattle.times.specs.Claims.{nanos_in, claimed_nanos}
 use Rattle.readiness.specs.declared.Moments.{Moments}
-use Rattle.readiness.specs.MadeReady.{no_moments}
+use Rattle.readiness.specs.MadeReady.{moments_of, no_moments}
+use Rattle.readiness.proofs.SlotMoments.{not_there, length_moments, moments_noted}
 use Rattle.seen_grammar.specs.declared.SeenLine.{SeenLine}
 use Rattle.seen_grammar.specs.declared.SeenRead.{SeenRead}
 use Rattle.seen_grammar.specs.Reading.{is_too_long, longest_seen, with_time, accepts}
@@ -26,26 +28,30 @@ use Rattle.seen_grammar.proofs.Exactly.{exactly, slot_below}
 -- ---- one line
 
 abbrev moment_of : Moments → ℕ → Option Nanos
-moment_of m slot = get_or m.by_slot slot None
+moment_of m slot = get_or (moments_of m) slot None
 
-module _ (l : SeenLine) (m : Moments) (n : length m.by_slot ≡ 32) (low : l.slot < 32) where
-  times_32 : length (with_time l m).by_slot ≡ 32
+module _ (l : SeenLine) (m : Moments) (n : length m.at_ns ≡ 32) (low : l.slot < 32) where
+  times_32 : length (with_time l m).at_ns ≡ 32
   unfolding with_time
-  times_32 = length-set m.by_slot l.slot (Some (claimed_nanos l.time)) ∙ n
+  times_32 = length-set m.at_ns l.slot (claimed_nanos l.time).0 ∙ n
+
+  noted : moments_of (with_time l m) ≡ set (moments_of m) l.slot (Some (claimed_nanos l.time))
+  unfolding with_time
+  noted = moments_noted m l.slot (claimed_nanos l.time) n low
 
   one_more : (slot : ℕ) → moment_of (with_time l m) slot ≡ cond (eqb l.slot slot) (Some (claimed_nanos l.time)) (moment_of m slot)
-  unfolding with_time
   one_more slot =
-      split (eqb l.slot slot)
-      (λ e. ap (λ (i : ℕ). get_or (with_time l m).by_slot i None) (sym (eqb-true l.slot slot e))
-      ∙ get_or-set_same m.by_slot l.slot (Some (claimed_nanos l.time)) None (omega (arith, n))
+      ap (λ (ms : List (Option Nanos)). get_or ms slot None) noted
+      ∙ split (eqb l.slot slot)
+      (λ e. ap (λ (i : ℕ). get_or (set (moments_of m) l.slot (Some (claimed_nanos l.time))) i None) (sym (eqb-true l.slot slot e))
+      ∙ get_or-set_same (moments_of m) l.slot (Some (claimed_nanos l.time)) None (omega (arith, length_moments m, n, low))
       ∙ sym (ap (λ (b : Bool). cond b (Some (claimed_nanos l.time)) (moment_of m slot)) e))
-      (λ e. get_or-set_other m.by_slot l.slot slot (Some (claimed_nanos l.time)) None (λ q. eqb-false l.slot slot e (sym q))
+      (λ e. get_or-set_other (moments_of m) l.slot slot (Some (claimed_nanos l.time)) None (λ q. eqb-false l.slot slot e (sym q))
       ∙ sym (ap (λ (b : Bool). cond b (Some (claimed_nanos l.time)) (moment_of m slot)) e))
 
 -- ---- all lines
 
-all_lines : {slots : ℕ} {before ls : List SeenLine} (m : Moments) → length m.by_slot ≡ 32 → AllFit slots before ls → (slot : ℕ) → slot < 32
+all_lines : {slots : ℕ} {before ls : List SeenLine} (m : Moments) → length m.at_ns ≡ 32 → AllFit slots before ls → (slot : ℕ) → slot < 32
     → moment_of (with_times ls m) slot ≡ seen_by ls slot (moment_of m slot)
 unfolding with_times seen_by
 all_lines m n AllFit.none slot h = refl
@@ -53,11 +59,11 @@ all_lines {slots} m n (AllFit.more {ls = ls} {l = l} f a) slot h =
     let low = slot_below slots l f.there in
     all_lines (with_time l m) (times_32 l m n low) a slot h ∙ ap (seen_by ls slot) (one_more l m n low slot)
 
-none_32 : length no_moments.by_slot ≡ 32
-none_32 = length-replicate {A = Option Nanos} 32 None
+none_32 : length no_moments.at_ns ≡ 32
+none_32 = length-replicate {A = ℕ} 32 0
 
 none_yet : (slot : ℕ) → slot < 32 → moment_of no_moments slot ≡ None
-none_yet slot h = get_or-replicate {A = Option Nanos} 32 slot None None h
+none_yet slot h = not_there no_moments slot (omega (arith, none_32, h)) (bit_none slot)
 
 -- ---- claims
 

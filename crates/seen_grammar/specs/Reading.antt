@@ -3,7 +3,7 @@ use Rattle.std.specs.Prelude.{ℕ, suc, Bool, true, false, ◌&&◌, not, cond, 
 use Rattle.times.specs.declared.ClaimedTime.{ClaimedTime}
 use Rattle.times.specs.Claims.{claimed_nanos}
 use Rattle.readiness.specs.declared.Moments.{Moments}
-use Rattle.readiness.specs.MadeReady.{no_moments}
+use Rattle.readiness.specs.MadeReady.{no_moments, with_moment}
 use Rattle.sheet_grammar.specs.Layout.{number_at, number_up_to, unit_at, claim}
 use Rattle.sheet_grammar.specs.Reading.{lines_of}
 use Rattle.seen_grammar.specs.declared.SeenLine.{SeenLine}
@@ -52,7 +52,7 @@ refusal_of slots named (Some l) =
 
 -- the seen times with that of a line
 unfoldable pub with_time : SeenLine → Moments → Moments
-with_time l m = record { by_slot = set m.by_slot l.slot (Some (claimed_nanos l.time)) }
+with_time l m = with_moment l.slot (claimed_nanos l.time) m
 
 -- ---- files
 

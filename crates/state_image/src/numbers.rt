@@ -4,7 +4,7 @@ ghost use Rattle.std.proofs.lemmas.List.Edits.{sets};
 ghost use Rattle.bits.specs.Bits.{one};
 ghost use Rattle.state_layout.specs.Numbers.{low_first, number_at, word_bytes, words_in};
 
-pub use bits::byte_at;
+pub use bits::{byte_at, usize_of_u8 as size_of_byte, usize_of_u16 as size};
 
 // Kept in this file: `bytes` and `at` stay two parameters, since the caller lends the image and `state_layout` fixes where each number stands; a cursor would hide the place.
 

@@ -14,6 +14,7 @@ use native.Mathlib.Omega.{arith}
 use mathlib.Core.List.{List}
 use lib.ListN.{length}
 use Rattle.readiness.specs.declared.Status.{Status}
+use Rattle.readiness.specs.MadeReady.{moments_of}
 use Rattle.readiness.specs.inner.Phases.{statuses_in, moments_in, moments_with}
 use Rattle.readiness.proofs.PhaseNumbers.{statuses_same}
 use Rattle.readiness.proofs.KeptMoments.{with_never}
@@ -32,11 +33,11 @@ use Rattle.replay.proofs.replay_in_place.Goals as goal
 pub returns-then-number-ne0 : goal.returns-then-number-ne0
 returns-then-number-ne0 c =
     let held : HeldWith = let a = c.args in held_with (held_in a.port a.phases.now a.live.now a.cells.now) a.state in
-    let keeping : HeldNoting = held_noting (held).port c.args.moments.by_slot c.args.state in
+    let keeping : HeldNoting = held_noting (held).port (moments_of c.args.moments) c.args.state in
     let s = c in
     let a = s.args in
     let same =
-    replays_not a.setup a.defaults.now (held) a.moments.by_slot a.input.now a.answers.now c.stops-number.result (c.stops-number.ensures a.live.now refl) c.if-number-ne0.true in
+    replays_not a.setup a.defaults.now (held) (moments_of a.moments) a.input.now a.answers.now c.stops-number.result (c.stops-number.ensures a.live.now refl) c.if-number-ne0.true in
     record { answers_after = without_moments a.setup a.defaults.now (keeping) a.input.now a.answers.now _ same; answers_after_2 = same }
 
 pub tidy-requires : goal.tidy-requires
@@ -74,7 +75,7 @@ gathered-requires c =
 pub returns : goal.returns
 returns c =
     let held : HeldWith = let a = c.args in held_with (held_in a.port a.phases.now a.live.now a.cells.now) a.state in
-    let keeping : HeldNoting = held_noting (held).port c.args.moments.by_slot c.args.state in
+    let keeping : HeldNoting = held_noting (held).port (moments_of c.args.moments) c.args.state in
     let small : (c.args.setup.bus < 256) × (c.args.setup.port_id < 65536) = (search rules, search rules) in
     let open_call : (let s = c in stops_first (bench s.args.setup s.args.defaults.now) (held) ≡ 0) = sym (c.stops-number.ensures c.args.live.now refl) ∙ c.if-number-ne0.false in
     let forgotten : List ℕ = c.forget.new.phases in
@@ -83,7 +84,7 @@ returns c =
     let a = s.args in
     let k = a.setup in
     let d = a.defaults.now in
-    let kept = a.moments.by_slot in
+    let kept = (moments_of a.moments) in
     let x = c.run_capture-x in
     let f = c in
     let phases = x.new.phases in

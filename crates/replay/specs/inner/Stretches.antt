@@ -9,7 +9,7 @@ use Rattle.readiness.specs.declared.Setup.{Setup}
 use Rattle.capture.specs.declared.Replay.{Replay}
 use Rattle.capture.specs.Advances.{stamp_in, back, due}
 use Rattle.capture.specs.Replay.{Progress, later, replay_open}
-use Rattle.capture.specs.Lent.{progress_in}
+use Rattle.capture.specs.Lent.{earlier_of, progress_in}
 use Rattle.replay_state.specs.inner.Moves.{due_of}
 use Rattle.replay.specs.declared.Run.{Run}
 use Rattle.replay.specs.declared.Run.TheVariants.{Advance, Record}
@@ -62,7 +62,7 @@ pub record WrittenOut (q : Progress) (space at : ℕ) (input : List ℕ) (q' : P
 -- ---- What stands next in a call
 -- the stamp of the entry before, if the replay stands between two entries
 abbrev pub stamp_before : Replay → Option Stamp
-stamp_before r = when eqb r.stamp_len 0 && eqb r.ended 0 then r.earlier else None
+stamp_before r = when eqb r.stamp_len 0 && eqb r.ended 0 then earlier_of r else None
 
 -- a record of a step is no longer than the longest, and ends no sooner than it begins
 abbrev pub RunFits : Run → (at : ℕ) → Type 0

@@ -6,6 +6,7 @@ use mathlib.Core.Path.{◌≡◌, ap, ◌∙◌}
 use lib.Seq.{sets}
 use lib.ListN.{length, set}
 use borrow.Author.Rules.{rules}
+use Rattle.std.specs.Prelude.{is_some}
 use Rattle.bits.specs.Bits.{one}
 use Rattle.state_layout.specs.Numbers.{low_first}
 use Rattle.replay_image.proofs.ReadBack.{replay_stores}
@@ -24,5 +25,5 @@ returns c =
     ∙ (λ i. sets ((c.put.ensures
     ∙ ap (λ (l : List ℕ). set l 5 (r.stamp_len % 256))
     (c.put_four.ensures
-    ∙ (λ j. sets ((c.put_bool.ensures ∙ ap (λ (b : Bool). set s.args.bytes.now 0 (one b)) c.is_some.ensures) j) 1 (low_first 4 (c.earlier_number.ensures j))))) i) 6 (c.up_to.ensures i))))
+    ∙ (λ j. sets ((c.put_bool.ensures ∙ ap (λ (b : Bool). set s.args.bytes.now 0 (one b)) (c.is_some.ensures ∙ ap is_some c.before-2.ensures)) j) 1 (low_first 4 (c.earlier_number.ensures j))))) i) 6 (c.up_to.ensures i))))
     ∙ replay_stores s.args.bytes.now r long

@@ -14,13 +14,14 @@ use lines::read_lines;
 use readiness::Setup;
 use so_far::{entries_from, nothing_named, refusal};
 
-// A word not named is 0.
-#[tactic(auto, unfolding(card_grammar::specs::Card::words_from))]
-fn words_from(words: &[Option<u32>; 2048]) -> [u32; 2048]
-    ensures value { result ≡ words_from words.now }
-    ensures long { length result ≡ 2048 }
+// The words lent take the default words; a word not named is 0.
+fn put_words(named: &[Option<u32>; 2048], words: &mut [u32])
+    requires { length words.old ≡ 2048 }
+    ensures { words.new ≡ words_from named.now }
 {
-    words.map(|word| word.unwrap_or(0))
+    for i in 0..2048 {
+        words[i] = named[i].unwrap_or(0);
+    }
 }
 
 // The card that so many lines have named, where so many words are lent for the default words.
@@ -58,7 +59,7 @@ pub fn read_card(text: &[u8], words: &mut [u32]) -> Result<Card, CardError>
     let lines = read_lines(text, &mut named)?;
     match card_from(lines, &named, words.len()) {
         Ok(card) => {
-            words.copy_from_slice(&words_from(&named.words));
+            put_words(&named.words, words);
             Ok(card)
         }
         Err(reason) => Err(refusal(lines, reason, &named)),

@@ -1,8 +1,9 @@
 -- `card_text::lines::read_lines` meets its contract.
-use mathlib.Core.Path.{◌≡◌, sym, ap, subst, ◌∙◌}
+use mathlib.Core.Path.{◌≡◌, sym, ap, ◌∙◌}
 use mathlib.Core.List.{List, ◌∷◌}
 use Prim.Native.Nat.{ℕ, ◌+◌, ◌<◌, ◌≤◌}
-use Rattle.std.specs.Prelude.{Result, Ok, Err, OnErr}
+use Rattle.std.specs.Prelude.{Result, Ok, Err}
+use Rattle.std.proofs.lemmas.Result.{IfErr-at_err}
 use Rattle.card_grammar.specs.declared.Reason.{Reason}
 use Rattle.card_grammar.specs.declared.Named.{Named}
 use native.Mathlib.Omega.{arith}
@@ -33,10 +34,6 @@ until_on end at text h is named after e f =
     (ap (λ (ls : List (List ℕ)). named_until ls named) (lines_at text at h)
     ∙ until_entered 0 (part at (run_end in_line at text) text) _ named after (e ∙ ap (λ (k : ℕ). enter_line (part at k text) named) is) f)
 
--- a line that is refused leaves what was named
-err_kept : {r : Result (Unit {0}) Reason} {why : Reason} {P : Type 0} → OnErr r P → r ≡ Err why → P
-err_kept {P = P} h e = subst (λ r. OnErr r P) e h
-
 pub slice_bounds-enter_line-end : goal.slice_bounds-enter_line-end
 slice_bounds-enter_line-end c = omega (arith, c.line_end-end.ensures, run_end_most in_line c.loop-at.at c.args.text.now (omega arith))
 
@@ -50,7 +47,7 @@ returns-in-Err c =
     let first : lines_of (drop l.at text) ≡ line ∷ others = lines_at text l.at c.loop-at-test.true in
     let entry : entered c.enter_line.result c.enter_line.new.named ≡ enter_line line l.named =
     c.enter_line.ensures.value ∙ ap (λ (k : ℕ). enter_line (part l.at k text) l.named) c.line_end-end.ensures in
-    let kept : c.enter_line.new.named ≡ l.named = err_kept c.enter_line.ensures.kept c.in-Err.is in
+    let kept : c.enter_line.new.named ≡ l.named = IfErr-at_err (λ _. c.enter_line.new.named ≡ l.named) c.in-Err.is c.enter_line.ensures.kept in
     record {
       read = ap Err (c.refusal.ensures ∙ ap (refusal (l.count + 1) c.in-Err.reason) kept)
           ∙ sym

@@ -6,13 +6,14 @@ use Prim.Native.Nat.{ℕ}
 use Prim.Native.String.{String}
 use lib.ListN.{get_or, replicate}
 use Rattle.readiness.specs.declared.Slot.{Slot}
-use Rattle.std.specs.Prelude.{Option, Some, None, Result, Ok, Err}
+use Rattle.std.specs.Prelude.{Result, Ok, Err}
 use Rattle.card_grammar.specs.declared.Reason.{Reason}
 use Rattle.card_grammar.specs.declared.Reason.TheVariants.{UnknownWord, BadNumber, LineTooShort, LineTooLong, OutOfRange, SlotsFirst, NamedTwice, Missing, NoRoom}
 use Rattle.card_grammar.specs.declared.Card.{Card}
 use Rattle.card_grammar.specs.declared.CardError.{CardError}
 use Rattle.card_grammar.specs.Grammar.{unfit, word_wanted, number_wanted, end_wanted, number_fact, enter_slots, enter_queue, enter_bus, enter_port, place_wanted, enter_word, yes_no_wanted, code_wanted, entry_wanted, enter_slot, enter_line, read_lines}
-use Rattle.card_grammar.specs.Card.{entries_from, words_from, card_from, card_of}
+use Rattle.card_grammar.specs.SoFar.{entries_from, setup_from}
+use Rattle.card_grammar.specs.Card.{words_from, card_from, card_of}
 use Rattle.bits.specs.Text.{chars}
 use Rattle.text_fields.specs.Text.{in_line, lines_of, is_blank, in_field, run, field_start, no_field, digit_of, value_from, width_allowed, number_of}
 
@@ -42,12 +43,12 @@ case_10_words : get_or (card_of (chars case10) (replicate 2048 0xEEEEEEEE)).word
 unfolding lines_of in_line field_start run is_blank in_field no_field digit_of value_from width_allowed number_of unfit word_wanted number_wanted end_wanted number_fact enter_slots enter_queue enter_bus enter_port place_wanted enter_word yes_no_wanted code_wanted entry_wanted enter_slot enter_line read_lines card_from card_of words_from
 case_10_words = refl
 
--- the line that is refused and the reason; nothing where the text is a card
-abbrev verdict : Result Card CardError → Option (ℕ × Reason)
-verdict (Ok card) = None
-verdict (Err e) = Some (e.line, e.reason)
+-- how many lines a card has, or the line that is refused and the reason
+abbrev verdict : Result Card CardError → Result ℕ (ℕ × Reason)
+verdict (Ok card) = Ok card.lines
+verdict (Err e) = Err (e.line, e.reason)
 
-abbrev verdicts : List String → List (Option (ℕ × Reason))
+abbrev verdicts : List String → List (Result ℕ (ℕ × Reason))
 verdicts [] = []
 verdicts (text ∷ more) = verdict (reading text) ∷ verdicts more
 
@@ -58,7 +59,7 @@ unknown_words : verdicts
     ∷ "slots 2\nqueue 4\nbus 01\nport 0008\nslot 0 reset 000 dlup 00A flr 005 d3hot 000 frs maybe"
     ∷ "Slots 2"
     ∷ [])
-    ≡ Some (1, UnknownWord) ∷ Some (5, UnknownWord) ∷ Some (5, UnknownWord) ∷ Some (1, UnknownWord) ∷ []
+    ≡ Err (1, UnknownWord) ∷ Err (5, UnknownWord) ∷ Err (5, UnknownWord) ∷ Err (1, UnknownWord) ∷ []
 unfolding lines_of in_line field_start run is_blank in_field no_field digit_of value_from width_allowed number_of unfit word_wanted number_wanted end_wanted number_fact enter_slots enter_queue enter_bus enter_port place_wanted enter_word yes_no_wanted code_wanted entry_wanted enter_slot enter_line read_lines card_from card_of
 unknown_words = refl
 
@@ -71,7 +72,7 @@ bad_numbers : verdicts
     ∷ "bus 0G"
     ∷ "slots 2\nqueue 4\nbus 01\nport 0008\nslot 0 reset A1 dlup 00A flr 005 d3hot 000 frs yes"
     ∷ [])
-    ≡ Some (1, BadNumber) ∷ Some (1, BadNumber) ∷ Some (3, BadNumber) ∷ Some (1, BadNumber) ∷ Some (1, BadNumber) ∷ Some (5, BadNumber) ∷ []
+    ≡ Err (1, BadNumber) ∷ Err (1, BadNumber) ∷ Err (3, BadNumber) ∷ Err (1, BadNumber) ∷ Err (1, BadNumber) ∷ Err (5, BadNumber) ∷ []
 unfolding lines_of in_line field_start run is_blank in_field no_field digit_of value_from width_allowed number_of unfit word_wanted number_wanted end_wanted number_fact enter_slots enter_queue enter_bus enter_port place_wanted enter_word yes_no_wanted code_wanted entry_wanted enter_slot enter_line read_lines card_from card_of
 bad_numbers = refl
 
@@ -82,7 +83,7 @@ line_ends : verdicts
     ∷ "slots 2 3"
     ∷ "slots 2\nqueue 4\nbus 01\nport 0008\nslot 0 reset 000 dlup 00A flr 005 d3hot 000 frs yes no"
     ∷ [])
-    ≡ Some (1, LineTooShort) ∷ Some (5, LineTooShort) ∷ Some (1, LineTooLong) ∷ Some (5, LineTooLong) ∷ []
+    ≡ Err (1, LineTooShort) ∷ Err (5, LineTooShort) ∷ Err (1, LineTooLong) ∷ Err (5, LineTooLong) ∷ []
 unfolding lines_of in_line field_start run is_blank in_field no_field digit_of value_from width_allowed number_of unfit word_wanted number_wanted end_wanted number_fact enter_slots enter_queue enter_bus enter_port place_wanted enter_word yes_no_wanted code_wanted entry_wanted enter_slot enter_line read_lines card_from card_of
 line_ends = refl
 
@@ -96,7 +97,7 @@ ranges : verdicts
     ∷ "slots 2\nqueue 4\nbus 01\nport 0008\nword 0 02 1"
     ∷ "slots 2\nqueue 4\nbus 01\nport 0008\nword 0 100 1"
     ∷ [])
-    ≡ Some (1, OutOfRange) ∷ Some (1, OutOfRange) ∷ Some (1, OutOfRange) ∷ Some (1, OutOfRange) ∷ Some (5, OutOfRange) ∷ Some (5, OutOfRange) ∷ Some (5, OutOfRange) ∷ []
+    ≡ Err (1, OutOfRange) ∷ Err (1, OutOfRange) ∷ Err (1, OutOfRange) ∷ Err (1, OutOfRange) ∷ Err (5, OutOfRange) ∷ Err (5, OutOfRange) ∷ Err (5, OutOfRange) ∷ []
 unfolding lines_of in_line field_start run is_blank in_field no_field digit_of value_from width_allowed number_of unfit word_wanted number_wanted end_wanted number_fact enter_slots enter_queue enter_bus enter_port place_wanted enter_word yes_no_wanted code_wanted entry_wanted enter_slot enter_line read_lines card_from card_of
 ranges = refl
 
@@ -105,7 +106,7 @@ slots_first : verdicts
     ("slot 0 reset 000 dlup 00A flr 005 d3hot 000 frs no\nslots 1"
     ∷ "queue 1\nword 0 00 1\nslots 1"
     ∷ [])
-    ≡ Some (1, SlotsFirst) ∷ Some (2, SlotsFirst) ∷ []
+    ≡ Err (1, SlotsFirst) ∷ Err (2, SlotsFirst) ∷ []
 unfolding lines_of in_line field_start run is_blank in_field no_field digit_of value_from width_allowed number_of unfit word_wanted number_wanted end_wanted number_fact enter_slots enter_queue enter_bus enter_port place_wanted enter_word yes_no_wanted code_wanted entry_wanted enter_slot enter_line read_lines card_from card_of
 slots_first = refl
 
@@ -115,7 +116,7 @@ named_twice : verdicts
     ∷ "slots 2\nqueue 4\nbus 01\nport 0008\nslot 1 reset 000 dlup 00A flr 005 d3hot 000 frs no\n\nslot 1 reset 000 dlup 00A flr 005 d3hot 000 frs no"
     ∷ "slots 2\nqueue 4\nbus 01\nport 0008\nword 1 44 0\nword 1 48 0\nword 1 44 0"
     ∷ [])
-    ≡ Some (2, NamedTwice) ∷ Some (7, NamedTwice) ∷ Some (7, NamedTwice) ∷ []
+    ≡ Err (2, NamedTwice) ∷ Err (7, NamedTwice) ∷ Err (7, NamedTwice) ∷ []
 unfolding lines_of in_line field_start run is_blank in_field no_field digit_of value_from width_allowed number_of unfit word_wanted number_wanted end_wanted number_fact enter_slots enter_queue enter_bus enter_port place_wanted enter_word yes_no_wanted code_wanted entry_wanted enter_slot enter_line read_lines card_from card_of
 named_twice = refl
 
@@ -124,20 +125,37 @@ all_named : verdicts
     (""
     ∷ "slots 2\nqueue 4\nport 0008\n"
     ∷ [])
-    ≡ Some (0, Missing) ∷ Some (3, Missing) ∷ []
+    ≡ Err (0, Missing) ∷ Err (3, Missing) ∷ []
 unfolding lines_of in_line field_start run is_blank in_field no_field digit_of value_from width_allowed number_of unfit word_wanted number_wanted end_wanted number_fact enter_slots enter_queue enter_bus enter_port place_wanted enter_word yes_no_wanted code_wanted entry_wanted enter_slot enter_line read_lines card_from card_of
 all_named = refl
 
--- the least card
+-- the least cards, of 4 lines each
 least_cards : verdicts
     ("slots 2\nqueue 4\nbus 01\nport 0008\n"
     ∷ "\tport 0008 # the root port\r\nbus 01\nqueue 4095\nslots 32"
     ∷ [])
-    ≡ None ∷ None ∷ []
+    ≡ Ok 4 ∷ Ok 4 ∷ []
 unfolding lines_of in_line field_start run is_blank in_field no_field digit_of value_from width_allowed number_of unfit word_wanted number_wanted end_wanted number_fact enter_slots enter_queue enter_bus enter_port place_wanted enter_word yes_no_wanted code_wanted entry_wanted enter_slot enter_line read_lines card_from card_of
 least_cards = refl
 
 -- 2,048 words must be lent
-too_few_words : verdict (card_of (chars case10) (replicate 2047 0)).read ≡ Some (8, NoRoom)
+too_few_words : verdict (card_of (chars case10) (replicate 2047 0)).read ≡ Err (8, NoRoom)
 unfolding lines_of in_line field_start run is_blank in_field no_field digit_of value_from width_allowed number_of unfit word_wanted number_wanted end_wanted number_fact enter_slots enter_queue enter_bus enter_port place_wanted enter_word yes_no_wanted code_wanted entry_wanted enter_slot enter_line read_lines card_from card_of
 too_few_words = refl
+
+-- a text that is refused: the set-up and the queue length of the lines before the one that is
+refused_so_far : reading "slots 2\nqueue 4\nbus 1F\nport 0008\nslot 1 reset 000 dlup 00A flr 005 d3hot 000 frs yes\nslots 3\nqueue 5"
+    ≡ Err (record {
+      line = 6;
+      reason = NamedTwice;
+      setup = record { slots = 2; entries = slot 0 0 0 0 false ∷ slot 0x000 0x00A 0x005 0x000 true ∷ replicate 30 (slot 0 0 0 0 false); bus = 0x1F; port_id = 0x0008 };
+      queue = 4;
+    })
+unfolding lines_of in_line field_start run is_blank in_field no_field digit_of value_from width_allowed number_of unfit word_wanted number_wanted end_wanted number_fact enter_slots enter_queue enter_bus enter_port place_wanted enter_word yes_no_wanted code_wanted entry_wanted enter_slot enter_line read_lines card_from card_of entries_from setup_from
+refused_so_far = refl
+
+-- what isn't named is 0
+missing_so_far : reading "queue 7\nport 0102"
+    ≡ Err (record { line = 2; reason = Missing; setup = record { slots = 0; entries = replicate 32 (slot 0 0 0 0 false); bus = 0; port_id = 0x0102 }; queue = 7 })
+unfolding lines_of in_line field_start run is_blank in_field no_field digit_of value_from width_allowed number_of unfit word_wanted number_wanted end_wanted number_fact enter_slots enter_queue enter_bus enter_port place_wanted enter_word yes_no_wanted code_wanted entry_wanted enter_slot enter_line read_lines card_from card_of entries_from setup_from
+missing_so_far = refl

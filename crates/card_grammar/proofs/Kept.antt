@@ -21,7 +21,7 @@ use Rattle.card_grammar.specs.declared.Reason.TheVariants.{OutOfRange}
 use Rattle.card_grammar.specs.declared.Fact.{Fact}
 use Rattle.card_grammar.specs.declared.Named.{Named}
 use Rattle.card_grammar.specs.Names.{name_slots, name_queue, name_bus, name_port, name_slot, name_word, name_reset, name_dl_up, name_flr, name_d3hot, name_frs}
-use Rattle.card_grammar.specs.Grammar.{and_then, unless, word_wanted, number_wanted, end_wanted, fresh, decimal, hex, hex_of, slots_fact, queue_fact, bus_fact, port_fact, in_range, number_fact, enter_slots, enter_queue, enter_bus, enter_port, slot_allowed, code_wanted, yes_no_wanted, entry_wanted, enter_slot, offset_allowed, place_wanted, enter_word, is_fact, enter_line, Told, at_line, read_lines}
+use Rattle.card_grammar.specs.Grammar.{and_then, unless, word_wanted, number_wanted, end_wanted, fresh, decimal, hex, hex_of, slots_fact, queue_fact, bus_fact, port_fact, in_range, number_fact, enter_slots, enter_queue, enter_bus, enter_port, slot_allowed, code_wanted, yes_no_wanted, entry_wanted, enter_slot, offset_allowed, place_wanted, enter_word, is_fact, enter_line, Told, at_line, read_lines, go_on, named_until}
 use Rattle.card_grammar.specs.Card.{nothing_named}
 
 -- ---- results
@@ -42,9 +42,9 @@ pub was_some : {A : Type 0} (o : Option A) (why : Reason) {a : A} → ok_or o wh
 was_some (Some b) why e = cc
 was_some None why e = cc
 
-pub at_line_ok : {A : Type 0} (n : ℕ) (r : Result A Reason) {a : A} → at_line n r ≡ Ok a → r ≡ Ok a
-at_line_ok n (Ok b) e = cc
-at_line_ok n (Err why) e = cc
+pub at_line_ok : {A : Type 0} (n : ℕ) (named : Named) (r : Result A Reason) {a : A} → at_line n named r ≡ Ok a → r ≡ Ok a
+at_line_ok n named (Ok b) e = cc
+at_line_ok n named (Err why) e = cc
 
 -- ---- numbers
 
@@ -231,9 +231,23 @@ module _ (line : List ℕ) (named : Named) (k : Kept named) where
 abbrev pub KeptTold : Told → Type 0
 KeptTold t = Kept t.named
 
-pub kept_lines : (lines : List (List ℕ)) (n : ℕ) (named : Named) → Kept named → IfOk (read_lines n lines named) KeptTold
+kept_told : (lines : List (List ℕ)) (n : ℕ) (named : Named) → Kept named → IfOk (read_lines n lines named) KeptTold
 unfolding read_lines
-kept_lines [] n named k = k
-kept_lines (line ∷ lines) n named k =
-    then_ok KeptTold (at_line (suc n) (enter_line line named)) _ λ after e.
-    kept_lines lines (suc n) after (if_ok Kept (at_line_ok (suc n) (enter_line line named) e) (kept_line line named k))
+kept_told [] n named k = k
+kept_told (line ∷ lines) n named k =
+    then_ok KeptTold (at_line (suc n) named (enter_line line named)) _ λ after e.
+    kept_told lines (suc n) after (if_ok Kept (at_line_ok (suc n) named (enter_line line named) e) (kept_line line named k))
+
+kept_on : (r : Result Named Reason) (before : Named) (rest : Named → Named) → Kept before → ((after : Named) → r ≡ Ok after → Kept (rest after)) → Kept (go_on r before rest)
+kept_on (Ok after) before rest k h = h after refl
+kept_on (Err why) before rest k h = k
+
+kept_until : (lines : List (List ℕ)) (named : Named) → Kept named → Kept (named_until lines named)
+unfolding named_until
+kept_until [] named k = k
+kept_until (line ∷ lines) named k =
+    kept_on (enter_line line named) named _ k λ after e. kept_until lines after (if_ok Kept e (kept_line line named k))
+
+-- of lines that are all entered, and of lines up to one that is refused
+pub kept_lines : (lines : List (List ℕ)) (n : ℕ) (named : Named) → Kept named → IfOk (read_lines n lines named) KeptTold × Kept (named_until lines named)
+kept_lines lines n named k = (kept_told lines n named k, kept_until lines named k)

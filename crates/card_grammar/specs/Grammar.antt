@@ -29,6 +29,7 @@ use Rattle.card_grammar.specs.declared.Reason.TheVariants.{UnknownWord, BadNumbe
 use Rattle.card_grammar.specs.declared.Fact.{Fact}
 use Rattle.card_grammar.specs.declared.Named.{Named}
 use Rattle.card_grammar.specs.declared.CardError.{CardError}
+use Rattle.card_grammar.specs.SoFar.{refusal}
 
 -- ---- reasons
 
@@ -203,17 +204,31 @@ pub record Told : Type 0 where
   pub lines : ℕ
   pub named : Named
 
--- a reason, at its line
-abbrev pub at_line : {A : Type 0} → ℕ → Result A Reason → Result A CardError
-at_line n (Ok a) = Ok a
-at_line n (Err why) = Err (record { line = n; reason = why })
+-- a reason, at its line, with what was named before it
+abbrev pub at_line : {A : Type 0} → ℕ → Named → Result A Reason → Result A CardError
+at_line n named (Ok a) = Ok a
+at_line n named (Err why) = Err (refusal n why named)
 
 -- lines are read in turn, up to the first that is refused
 unfoldable pub read_lines : ℕ → List (List ℕ) → Named → Result Told CardError
 read_lines n [] named = Ok (record { lines = n; named = named })
-read_lines n (line ∷ lines) named = and_then (at_line (suc n) (enter_line line named)) λ after. read_lines (suc n) lines after
+read_lines n (line ∷ lines) named = and_then (at_line (suc n) named (enter_line line named)) λ after. read_lines (suc n) lines after
 
 -- what a call leaves that reads lines
 abbrev pub told : Result ℕ CardError → Named → Result Told CardError
 told (Ok n) named = Ok (record { lines = n; named = named })
 told (Err e) named = Err e
+
+-- what is named once a line and those behind it were read: a line that is refused leaves what was named, and none is read behind it
+abbrev pub go_on : Result Named Reason → (before : Named) → (Named → Named) → Named
+go_on (Ok after) before rest = rest after
+go_on (Err why) before rest = before
+
+-- what is named after a line
+abbrev pub named_after : (line : List ℕ) → Named → Named
+named_after line named = go_on (enter_line line named) named λ after. after
+
+-- what is named after lines, up to the first that is refused
+unfoldable pub named_until : List (List ℕ) → Named → Named
+named_until [] named = named
+named_until (line ∷ lines) named = go_on (enter_line line named) named λ after. named_until lines after

@@ -1,3 +1,4 @@
 pub mod Names
+pub mod SoFar
 pub mod Grammar
 pub mod Card

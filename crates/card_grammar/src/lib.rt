@@ -54,10 +54,12 @@ pub struct Card {
     pub queue: usize,
 }
 
-// Why a text is no card: the reason, and the line that is refused, counted from 1, or the last line where the text as a whole is. It
-// gives no set-up.
+// Why a text is no card: the reason, and the line that is refused, counted from 1, or the last line where the text as a whole is; and
+// the set-up and the queue length as far as they were read, where what isn't named is 0.
 #[derive(Clone, Copy)]
 pub struct CardError {
     pub line: usize,
     pub reason: Reason,
+    pub setup: Setup,
+    pub queue: usize,
 }

@@ -14,7 +14,8 @@ use Rattle.text_fields.specs.Text.{part, in_line, onto, lines_of, run, run_end}
 use Rattle.card_grammar.specs.declared.Reason.{Reason}
 use Rattle.card_grammar.specs.declared.Named.{Named}
 use Rattle.card_grammar.specs.declared.CardError.{CardError}
-use Rattle.card_grammar.specs.Grammar.{and_then, entered, enter_line, Told, at_line, read_lines}
+use Rattle.card_grammar.specs.SoFar.{refusal}
+use Rattle.card_grammar.specs.Grammar.{and_then, entered, enter_line, Told, at_line, read_lines, go_on, named_until}
 
 -- ---- the first line, and the lines after it
 
@@ -74,7 +75,7 @@ module _ (text : List ℕ) (at : ℕ) (h : at < length text) where
 
 module _ (n : ℕ) (line : List ℕ) (lines : List (List ℕ)) (named : Named) where
   step : Result Named Reason → Result Told CardError
-  step r = and_then (at_line (suc n) r) (λ (after : Named). read_lines (suc n) lines after)
+  step r = and_then (at_line (suc n) named r) (λ (after : Named). read_lines (suc n) lines after)
 
   -- a line that is entered
   pub line_entered : {r : Result (Unit {0}) Reason} {u : Unit {0}} (after : Named) → entered r after ≡ enter_line line named → r ≡ Ok u
@@ -84,12 +85,30 @@ module _ (n : ℕ) (line : List ℕ) (lines : List (List ℕ)) (named : Named) w
 
   -- one that is refused
   pub line_refused : {r : Result (Unit {0}) Reason} {why : Reason} (after : Named) → entered r after ≡ enter_line line named → r ≡ Err why
-      → read_lines n (line ∷ lines) named ≡ Err (record { line = n + 1; reason = why })
+      → read_lines n (line ∷ lines) named ≡ Err (refusal (n + 1) why named)
   unfolding read_lines step
   line_refused after e f = rw add-one (ap step (sym e) ∙ ap (λ (r : Result (Unit {0}) Reason). step (entered r after)) f)
+
+  onward : Result Named Reason → Named
+  onward r = go_on r named (named_until lines)
+
+  -- what is named after a line that is entered, and after one that is refused
+  pub until_entered : {r : Result (Unit {0}) Reason} {u : Unit {0}} (after : Named) → entered r after ≡ enter_line line named → r ≡ Ok u
+      → named_until (line ∷ lines) named ≡ named_until lines after
+  unfolding named_until onward
+  until_entered after e f = ap onward (sym e) ∙ ap (λ (r : Result (Unit {0}) Reason). onward (entered r after)) f
+
+  pub until_refused : {r : Result (Unit {0}) Reason} {why : Reason} (after : Named) → entered r after ≡ enter_line line named → r ≡ Err why
+      → named_until (line ∷ lines) named ≡ named
+  unfolding named_until onward
+  until_refused after e f = ap onward (sym e) ∙ ap (λ (r : Result (Unit {0}) Reason). onward (entered r after)) f
 
 -- no line is left
 pub lines_end : (n : ℕ) (text : List ℕ) (named : Named) (at : ℕ) → length text ≤ at
     → read_lines n (lines_of (drop at text)) named ≡ Ok (record { lines = n; named = named })
 unfolding read_lines lines_of
 lines_end n text named at h = ap (λ (l : List ℕ). read_lines n (lines_of l) named) (drop_of_length-le text h)
+
+pub until_end : (text : List ℕ) (named : Named) (at : ℕ) → length text ≤ at → named_until (lines_of (drop at text)) named ≡ named
+unfolding named_until lines_of
+until_end text named at h = ap (λ (l : List ℕ). named_until (lines_of l) named) (drop_of_length-le text h)

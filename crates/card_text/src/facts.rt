@@ -1,5 +1,5 @@
-// What a line names.
-ghost use Rattle.std.specs.Prelude.{◌≡◌, ◌<◌};
+// What a line names; one that is refused changes nothing.
+ghost use Rattle.std.specs.Prelude.{◌≡◌, ◌<◌, OnErr};
 ghost use Rattle.std.specs.Result.{IfOk};
 ghost use Rattle.card_grammar.specs.Grammar.{entered, enter_slots, enter_queue, enter_bus, enter_port, enter_slot, place_wanted, enter_word, enter_line};
 
@@ -57,7 +57,8 @@ const PORT: Fact = Fact {
 
 #[tactic(auto, unfolding(card_grammar::specs::Grammar::enter_slots))]
 fn enter_slots(line: &[u8], named: &mut Named) -> Result<(), Reason>
-    ensures { entered result named.new ≡ enter_slots line.now named.old }
+    ensures value { entered result named.new ≡ enter_slots line.now named.old }
+    ensures kept { OnErr result (named.new ≡ named.old) }
 {
     named.slots = Some(number_fact(line, SLOTS, named.slots.is_some())? as usize);
     Ok(())
@@ -65,7 +66,8 @@ fn enter_slots(line: &[u8], named: &mut Named) -> Result<(), Reason>
 
 #[tactic(auto, unfolding(card_grammar::specs::Grammar::enter_queue))]
 fn enter_queue(line: &[u8], named: &mut Named) -> Result<(), Reason>
-    ensures { entered result named.new ≡ enter_queue line.now named.old }
+    ensures value { entered result named.new ≡ enter_queue line.now named.old }
+    ensures kept { OnErr result (named.new ≡ named.old) }
 {
     named.queue = Some(number_fact(line, QUEUE, named.queue.is_some())? as usize);
     Ok(())
@@ -73,7 +75,8 @@ fn enter_queue(line: &[u8], named: &mut Named) -> Result<(), Reason>
 
 #[tactic(auto, unfolding(card_grammar::specs::Grammar::enter_bus))]
 fn enter_bus(line: &[u8], named: &mut Named) -> Result<(), Reason>
-    ensures { entered result named.new ≡ enter_bus line.now named.old }
+    ensures value { entered result named.new ≡ enter_bus line.now named.old }
+    ensures kept { OnErr result (named.new ≡ named.old) }
 {
     named.bus = Some(number_fact(line, BUS, named.bus.is_some())? as u8);
     Ok(())
@@ -81,7 +84,8 @@ fn enter_bus(line: &[u8], named: &mut Named) -> Result<(), Reason>
 
 #[tactic(auto, unfolding(card_grammar::specs::Grammar::enter_port))]
 fn enter_port(line: &[u8], named: &mut Named) -> Result<(), Reason>
-    ensures { entered result named.new ≡ enter_port line.now named.old }
+    ensures value { entered result named.new ≡ enter_port line.now named.old }
+    ensures kept { OnErr result (named.new ≡ named.old) }
 {
     named.port = Some(number_fact(line, PORT, named.port.is_some())? as u16);
     Ok(())
@@ -90,7 +94,8 @@ fn enter_port(line: &[u8], named: &mut Named) -> Result<(), Reason>
 // slot N reset HHH dlup HHH flr HHH d3hot HHH frs yes|no
 #[tactic(auto, unfolding(card_grammar::specs::Grammar::enter_slot))]
 fn enter_slot(line: &[u8], named: &mut Named) -> Result<(), Reason>
-    ensures { entered result named.new ≡ enter_slot line.now named.old }
+    ensures value { entered result named.new ≡ enter_slot line.now named.old }
+    ensures kept { OnErr result (named.new ≡ named.old) }
 {
     let n = number_wanted(line, 1, DECIMAL)?;
     let entry = entry_wanted(line)?;
@@ -119,7 +124,8 @@ fn place_wanted(line: &[u8], slots: Option<usize>) -> Result<(usize, u32), Reaso
 // word N OFFSET VALUE
 #[tactic(auto, unfolding(card_grammar::specs::Grammar::enter_word))]
 fn enter_word(line: &[u8], named: &mut Named) -> Result<(), Reason>
-    ensures { entered result named.new ≡ enter_word line.now named.old }
+    ensures value { entered result named.new ≡ enter_word line.now named.old }
+    ensures kept { OnErr result (named.new ≡ named.old) }
 {
     let (place, value) = place_wanted(line, named.slots)?;
     fresh(named.words[place].is_some())?;
@@ -130,7 +136,8 @@ fn enter_word(line: &[u8], named: &mut Named) -> Result<(), Reason>
 // One line: nothing but blanks and a comment, or a fact.
 #[tactic(auto, unfolding(card_grammar::specs::Grammar::enter_line))]
 pub fn enter_line(line: &[u8], named: &mut Named) -> Result<(), Reason>
-    ensures { entered result named.new ≡ enter_line line.now named.old }
+    ensures value { entered result named.new ≡ enter_line line.now named.old }
+    ensures kept { OnErr result (named.new ≡ named.old) }
 {
     if no_field(line, 0) {
         return Ok(());

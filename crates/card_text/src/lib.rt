@@ -3,43 +3,25 @@
 
 mod wanted; // what a line's fields must be
 mod facts; // what a line names
+mod so_far; // what was named, as a set-up, and refusals
 mod lines; // the lines of a text
 
 ghost use Rattle.std.specs.Prelude.{◌≡◌, length};
-ghost use Rattle.card_grammar.specs.Card.{nothing_named, entries_from, words_from, card_from, outcome, card_of};
+ghost use Rattle.card_grammar.specs.Card.{words_from, card_from, outcome, card_of};
 
 use card_grammar::{Card, CardError, Named, Reason};
 use lines::read_lines;
-use readiness::{Setup, Slot, blank_slot};
+use readiness::Setup;
+use so_far::{entries_from, nothing_named, refusal};
 
-fn nothing_named() -> Named
-    ensures { result ≡ nothing_named }
+// The words lent take the default words; a word not named is 0.
+fn put_words(named: &[Option<u32>; 2048], words: &mut [u32])
+    requires { length words.old ≡ 2048 }
+    ensures { words.new ≡ words_from named.now }
 {
-    Named {
-        slots: None,
-        queue: None,
-        bus: None,
-        port: None,
-        entries: [None; 32],
-        words: [None; 2048],
+    for i in 0..2048 {
+        words[i] = named[i].unwrap_or(0);
     }
-}
-
-// A slot not named has codes 000 and no FRS.
-#[tactic(auto, unfolding(card_grammar::specs::Card::entries_from))]
-fn entries_from(entries: &[Option<Slot>; 32]) -> [Slot; 32]
-    ensures { result ≡ entries_from entries.now }
-{
-    entries.map(|entry| entry.unwrap_or(blank_slot()))
-}
-
-// A word not named is 0.
-#[tactic(auto, unfolding(card_grammar::specs::Card::words_from))]
-fn words_from(words: &[Option<u32>; 2048]) -> [u32; 2048]
-    ensures value { result ≡ words_from words.now }
-    ensures long { length result ≡ 2048 }
-{
-    words.map(|word| word.unwrap_or(0))
 }
 
 // The card that so many lines have named, where so many words are lent for the default words.
@@ -67,7 +49,8 @@ fn card_from(lines: usize, named: &Named, lent: usize) -> Result<Card, Reason>
     })
 }
 
-// Reads a card's text. The words lent, 2,048 of them, take the default words where the text is a card; else they stay.
+// Reads a card's text. The words lent, 2,048 of them, take the default words where the text is a card; else they stay, and the error
+// has the set-up and the queue length as far as they were read.
 #[tactic(auto, unfolding(card_grammar::specs::Card::card_of))]
 pub fn read_card(text: &[u8], words: &mut [u32]) -> Result<Card, CardError>
     ensures { outcome result words.new ≡ card_of text.now words.old }
@@ -76,12 +59,9 @@ pub fn read_card(text: &[u8], words: &mut [u32]) -> Result<Card, CardError>
     let lines = read_lines(text, &mut named)?;
     match card_from(lines, &named, words.len()) {
         Ok(card) => {
-            words.copy_from_slice(&words_from(&named.words));
+            put_words(&named.words, words);
             Ok(card)
         }
-        Err(reason) => Err(CardError {
-            line: lines,
-            reason,
-        }),
+        Err(reason) => Err(refusal(lines, reason, &named)),
     }
 }

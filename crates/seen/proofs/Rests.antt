@@ -12,8 +12,9 @@ use borrow.Author.Tests.{ltb-true}
 use Rattle.bits.proofs.Tests.{both_right}
 use Rattle.readiness.specs.declared.Moments.{Moments}
 use Rattle.sheet_grammar.specs.Reading.{lines_of}
-use Rattle.std.specs.Prelude.{Option, Some, None, Result, Ok, Err}
+use Rattle.std.specs.Prelude.{Result, Ok, Err}
 use Rattle.seen_grammar.specs.declared.SeenLine.{SeenLine}
+use Rattle.seen_grammar.specs.declared.NoLine.{NoLine}
 use Rattle.seen_grammar.specs.declared.SeenRefusal.{SeenRefusal}
 use Rattle.seen_grammar.specs.declared.SeenRefusal.TheVariants.{NoSlot, NamedBefore, TooLong}
 use Rattle.seen_grammar.specs.declared.SeenRead.{SeenRead}
@@ -27,10 +28,10 @@ below : (slots slot : ℕ) → is_slot slots slot ≡ true → slot < 32
 unfolding is_slot
 below slots slot e = ltb-true slot 32 (both_right (ltb slot slots) (ltb slot 32) e)
 
-pub its_slot : (slots : ℕ) (named : List Bool) (o : Option SeenLine) {l : SeenLine} → refusal_of slots named o ≡ Ok l → l.slot < 32
+pub its_slot : (slots : ℕ) (named : List Bool) (r : Result SeenLine NoLine) {l : SeenLine} → refusal_of slots named r ≡ Ok l → l.slot < 32
 unfolding refusal_of
-its_slot slots named None e = cc
-its_slot slots named (Some k) e = by (is_slot slots k.slot) (get_or named k.slot false) (is_too_long k.time) _ refl e
+its_slot slots named (Err x) e = cc
+its_slot slots named (Ok k) e = by (is_slot slots k.slot) (get_or named k.slot false) (is_too_long k.time) _ refl e
   where
     by : (t u v : Bool) (l : SeenLine) → is_slot slots k.slot ≡ t → cond (not t) (Err NoSlot) (cond u (Err NamedBefore) (cond v (Err TooLong) (Ok k))) ≡ Ok l → l.slot < 32
     by true false false l is h = let same : k ≡ l = cc in subst (λ (x : SeenLine). x.slot < 32) same (below slots k.slot is)

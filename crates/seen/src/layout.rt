@@ -3,7 +3,7 @@ ghost use Rattle.std.specs.Prelude.{◌≡◌, ◌+◌, ◌&&◌, eqb, drop};
 ghost use Rattle.seen_grammar.specs.Reading.{line_of};
 ghost use Rattle.seen.specs.inner.Sizes.{first_size};
 
-use seen_grammar::SeenLine;
+use seen_grammar::{NoLine, SeenLine};
 use sheet::{number_up_to, unit_at};
 use sheet_grammar::{NumberRead, UnitRead};
 use text_fields::line_end;
@@ -21,20 +21,21 @@ fn all_fit(slot: NumberRead, time: NumberRead, u: UnitRead, end: usize) -> bool
     slot.fits && time.fits && u.fits && u.next == end
 }
 
-// What bytes say as a line, if they are one.
-pub fn line_of(s: &[u8]) -> Option<SeenLine>
+// What bytes say as a line, or, where they are none, what was read of it.
+pub fn line_of(s: &[u8]) -> Result<SeenLine, NoLine>
     ensures { result ≡ line_of s.now }
 {
     let slot = number_up_to(s, 0, SLOT_DIGITS);
     let time = number_up_to(s, slot.next, TIME_DIGITS);
     let u = unit_at(s, time.next);
+    let said = SeenLine {
+        slot: slot.number,
+        time: claimed(time.number, u.unit),
+    };
     if all_fit(slot, time, u, s.len()) {
-        Some(SeenLine {
-            slot: slot.number,
-            time: claimed(time.number, u.unit),
-        })
+        Ok(said)
     } else {
-        None
+        Err(NoLine { so_far: said })
     }
 }
 

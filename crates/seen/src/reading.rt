@@ -4,7 +4,7 @@ ghost use Rattle.seen_grammar.specs.Reading.{is_slot, is_named, is_too_long, ref
 
 use crate::layout::{line_after, line_of};
 use readiness::{Moments, no_moments};
-use seen_grammar::{SeenLine, SeenRead, SeenRefusal};
+use seen_grammar::{NoLine, SeenLine, SeenRead, SeenRefusal};
 use times::{ClaimedTime, claimed_nanos, nanos_number};
 
 // No seen time is longer.
@@ -40,10 +40,14 @@ fn is_too_long(c: ClaimedTime) -> bool
 
 // The line, or the first refusal that applies to it.
 #[tactic(auto, unfolding(seen_grammar::specs::Reading::refusal_of))]
-fn refusal_of(slots: usize, named: [bool; 32], l: Option<SeenLine>) -> Result<SeenLine, SeenRefusal>
+fn refusal_of(
+    slots: usize,
+    named: [bool; 32],
+    l: Result<SeenLine, NoLine>,
+) -> Result<SeenLine, SeenRefusal>
     ensures { result ≡ refusal_of slots named l }
 {
-    let Some(l) = l else {
+    let Ok(l) = l else {
         return Err(SeenRefusal::Layout);
     };
     if !is_slot(slots, l.slot) {

@@ -15,8 +15,8 @@ use Rattle.readiness.specs.MadeReady.{no_moments}
 use Rattle.sheet_grammar.specs.Reading.{lines_of}
 use Rattle.sheet_grammar.proofs.Lines.{cut-first}
 use Rattle.seen_grammar.specs.declared.SeenLine.{SeenLine}
-use Rattle.std.specs.Prelude.{Option, Some, None, Result, Ok, Err}
-use Rattle.std.proofs.lemmas.Option.{none-some}
+use Rattle.seen_grammar.specs.declared.NoLine.{NoLine}
+use Rattle.std.specs.Prelude.{Result, Ok, Err}
 use Rattle.seen_grammar.specs.declared.SeenRefusal.{SeenRefusal}
 use Rattle.seen_grammar.specs.declared.SeenRefusal.TheVariants.{Layout, NoSlot, NamedBefore, TooLong}
 use Rattle.seen_grammar.specs.declared.SeenRead.{SeenRead}
@@ -60,10 +60,13 @@ marks_more {marks} {before} l h m =
 
 -- ---- one line
 
--- something was read, or nothing
-none_or_some : {A P : Type 0} (o : Option A) → (o ≡ None → P) → ((a : A) → o ≡ Some a → P) → P
-none_or_some None f g = f refl
-none_or_some (Some a) f g = g a refl
+-- bytes are read as a line, or as none
+err_or_ok : {A E P : Type 0} (r : Result A E) → ((e : E) → r ≡ Err e → P) → ((a : A) → r ≡ Ok a → P) → P
+err_or_ok (Err e) f g = f e refl
+err_or_ok (Ok a) f g = g a refl
+
+not_both : {P : Type 0} (x : NoLine) (l : SeenLine) → Err x ≡ Ok l → P
+not_both x l e = cc
 
 module _ (slots n : ℕ) (marks : List Bool) (now : Moments) where
   -- the reading after a line: it goes on with other lines, or stops
@@ -78,13 +81,13 @@ module _ (slots n : ℕ) (marks : List Bool) (now : Moments) where
   unfolding read_lines refusal_of
   line_step {first} {l} rest t u v h d e f =
       ap (λ (lines : List (List ℕ)). read_lines slots n lines marks now) (lines_first rest h)
-      ∙ ap (λ (o : Option SeenLine). onward (lines_of rest) (refusal_of slots marks o)) (line_read h)
+      ∙ ap (λ (o : Result SeenLine NoLine). onward (lines_of rest) (refusal_of slots marks o)) (line_read h)
       ∙ λ i. onward (lines_of rest) (cond (not (d i)) (Err NoSlot) (cond (e i) (Err NamedBefore) (cond (f i) (Err TooLong) (Ok l))))
 
   -- bytes that are no line of the grammar
-  bad_step : (line : List ℕ) (lines : List (List ℕ)) → line_of line ≡ None → read_lines slots n (line ∷ lines) marks now ≡ refuses Layout (suc n)
+  bad_step : (line : List ℕ) (lines : List (List ℕ)) (x : NoLine) → line_of line ≡ Err x → read_lines slots n (line ∷ lines) marks now ≡ refuses Layout (suc n)
   unfolding read_lines refusal_of
-  bad_step line lines e = ap (λ (o : Option SeenLine). onward lines (refusal_of slots marks o)) e
+  bad_step line lines x e = ap (λ (o : Result SeenLine NoLine). onward lines (refusal_of slots marks o)) e
 
   -- a text that isn't empty and starts with no line of the grammar
   none_step : (s : List ℕ) → (s ≡ [] → ⊥) → ((first more : List ℕ) (l : SeenLine) → Line first l → s ≡ first ++ more → ⊥)
@@ -93,8 +96,7 @@ module _ (slots n : ℕ) (marks : List Bool) (now : Moments) where
   none_step (b ∷ s) some none =
       let c = cut-first b s in
       ap (λ (lines : List (List ℕ)). read_lines slots n lines marks now) c.cut
-      ∙ bad_step c.line (lines_of c.rest)
-      (none_or_some (line_of c.line) (λ e. e) (λ l e. absurd (none c.line c.rest l (line_found c.line l e) c.text)))
+      ∙ err_or_ok (line_of c.line) (λ x e. bad_step c.line (lines_of c.rest) x e) (λ l e. absurd (none c.line c.rest l (line_found c.line l e) c.text))
 
 module _ {marks : List Bool} {before : List SeenLine} (slots n : ℕ) (now : Moments) (m : Marks marks before) where
   -- the mark of a slot that is there
@@ -207,11 +209,11 @@ parts_of zero slots before s h = absurd (omega arith)
 parts_of (suc most) slots before [] h = Parts.all File.none AllFit.none
 parts_of (suc most) slots before (b ∷ s) h =
     let c = cut-first b s in
-    none_or_some (line_of c.line)
-    (λ e. Parts.up_to File.none AllFit.none
+    err_or_ok (line_of c.line)
+    (λ x e. Parts.up_to File.none AllFit.none
     (Refused.layout cons≢nil (λ first more l is t.
     let same : c.line ≡ first = ap first_line (sym c.cut ∙ ap lines_of t ∙ lines_first more is) in
-    none-some l (sym e ∙ ap line_of same ∙ line_read is))))
+    not_both x l (sym e ∙ ap line_of same ∙ line_read is))))
     (λ l e. let is = line_found c.line l e in
     let shorter : length c.rest < most = omega (arith, line_some is, length-append c.line c.rest, ap length c.text) in
     subst (Parts slots before) (sym c.text) (part_line slots before c.rest is (parts_of most slots (l ∷ before) c.rest shorter)))

@@ -5,7 +5,8 @@ use Prim.Native.Nat.{ℕ}
 use lib.ListN.{replicate}
 use Rattle.bits.specs.Bits.{bit, number, word}
 use Rattle.bits.specs.Text.{chars}
-use Rattle.std.specs.Prelude.{Option, Some}
+use Rattle.std.specs.Prelude.{Option, Some, Err}
+use Rattle.times.specs.declared.Unit.TheVariants.{Us}
 use Rattle.times.specs.declared.Nanos.{Nanos}
 use Rattle.times.specs.Claims.{nanos_in, claimed_nanos}
 use Rattle.readiness.specs.MadeReady.{with_bit}
@@ -39,6 +40,11 @@ nothing_seen = refl
 no_end : seen_of (chars "3 2150 us\n0 5000 ns") 4 ≡ refuses Layout 2
 unfolding seen_of read_lines lines_of refusal_of is_slot is_too_long with_time line_of unit_at unit_bytes number_up_to next_place number_fits digits_from digit_of claimed_nanos nanos_in
 no_end = refl
+
+-- what was read of it
+no_end_read : line_of (chars "3 2150 us") ≡ Err (record { so_far = record { slot = 3; time = record { number = 2150; unit = Us } } })
+unfolding line_of unit_at unit_bytes number_up_to next_place number_fits digits_from digit_of
+no_end_read = refl
 
 no_unit : seen_of (chars "3 2150 s\n") 4 ≡ refuses Layout 1
 unfolding seen_of read_lines lines_of refusal_of line_of unit_at unit_bytes number_up_to next_place number_fits digits_from digit_of

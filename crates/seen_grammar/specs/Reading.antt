@@ -1,5 +1,5 @@
 -- What a file of seen times gives (02, Q-7).
-use Rattle.std.specs.Prelude.{ℕ, suc, Bool, true, false, ◌&&◌, not, cond, List, [], ◌∷◌, eqb, ltb, length, get_or, set, replicate, Option, Some, None, Result, Ok, Err}
+use Rattle.std.specs.Prelude.{ℕ, suc, Bool, true, false, ◌&&◌, not, cond, List, [], ◌∷◌, eqb, ltb, length, get_or, set, replicate, Some, Result, Ok, Err}
 use Rattle.times.specs.declared.ClaimedTime.{ClaimedTime}
 use Rattle.times.specs.Claims.{claimed_nanos}
 use Rattle.readiness.specs.declared.Moments.{Moments}
@@ -7,6 +7,7 @@ use Rattle.readiness.specs.MadeReady.{no_moments, with_moment}
 use Rattle.sheet_grammar.specs.Layout.{number_at, number_up_to, unit_at, claim}
 use Rattle.sheet_grammar.specs.Reading.{lines_of}
 use Rattle.seen_grammar.specs.declared.SeenLine.{SeenLine}
+use Rattle.seen_grammar.specs.declared.NoLine.{NoLine}
 use Rattle.seen_grammar.specs.declared.SeenRefusal.{SeenRefusal}
 use Rattle.seen_grammar.specs.declared.SeenRefusal.TheVariants.{NoRefusal, Layout, NoSlot, NamedBefore, TooLong}
 use Rattle.seen_grammar.specs.declared.SeenRead.{SeenRead}
@@ -14,15 +15,14 @@ use Rattle.seen_grammar.specs.Grammar.{most_time_digits}
 
 -- ---- lines
 
--- the three fields one after the other, and nothing after them
-unfoldable pub line_of : List ℕ → Option SeenLine
+-- the three fields one after the other, and nothing after them; else what was read of them
+unfoldable pub line_of : List ℕ → Result SeenLine NoLine
 line_of s =
     let slot = number_at 0 s in
     let time = number_up_to most_time_digits slot.next s in
     let u = unit_at time.next s in
-    cond (slot.fits && time.fits && u.fits && eqb u.next (length s))
-    (Some (record { slot = slot.number; time = claim time.number u.unit }))
-    None
+    let said : SeenLine = record { slot = slot.number; time = claim time.number u.unit } in
+    cond (slot.fits && time.fits && u.fits && eqb u.next (length s)) (Ok said) (Err (record { so_far = said }))
 
 -- ---- refusals
 
@@ -42,9 +42,9 @@ unfoldable pub is_too_long : ClaimedTime → Bool
 is_too_long c = ltb longest_seen (claimed_nanos c).0
 
 -- the first that applies to a line, or the line
-unfoldable pub refusal_of : (slots : ℕ) (named : List Bool) → Option SeenLine → Result SeenLine SeenRefusal
-refusal_of slots named None = Err Layout
-refusal_of slots named (Some l) =
+unfoldable pub refusal_of : (slots : ℕ) (named : List Bool) → Result SeenLine NoLine → Result SeenLine SeenRefusal
+refusal_of slots named (Err e) = Err Layout
+refusal_of slots named (Ok l) =
     cond (not (is_slot slots l.slot)) (Err NoSlot)
     (cond (is_named named l.slot) (Err NamedBefore) (cond (is_too_long l.time) (Err TooLong) (Ok l)))
 

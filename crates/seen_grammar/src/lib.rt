@@ -11,6 +11,12 @@ pub struct SeenLine {
     pub time: ClaimedTime,
 }
 
+// Bytes that are no line, with the slot, the number and the unit as far as they were read.
+#[derive(Clone, Copy)]
+pub struct NoLine {
+    pub so_far: SeenLine,
+}
+
 // Why a file is refused, or that it isn't.
 #[derive(Clone, Copy)]
 pub enum SeenRefusal {

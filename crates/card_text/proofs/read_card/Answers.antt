@@ -4,8 +4,8 @@ use Rattle.card_grammar.proofs.Kept.{if_ok}
 use Rattle.card_grammar.proofs.Laws.{Parts, parts}
 use Rattle.card_text.proofs.read_card.Goals as goal
 
-pub copy_from_slice-requires : goal.copy_from_slice-requires
-copy_from_slice-requires c =
+pub put_words-requires : goal.put_words-requires
+put_words-requires c =
     let lent : ℕ = length c.args.words.now in
     let room : lent ≡ 2048 = (if_ok (Parts c.in_ok-lines.lines c.read_lines.new.named lent) (sym c.card_from.ensures ∙ c.in-Ok.is) (parts c.in_ok-lines.lines c.read_lines.new.named lent)).room in
-    room ∙ sym c.words_from.ensures.long
+    room

@@ -10,8 +10,8 @@ use lib.ListN.{length, get_or, set}
 use borrow.Author.Tests.{leb-true, ltb-true, ltb-false, eqb-true, le-leb, lt-ltb, eq-eqb}
 use Rattle.bits.proofs.Lists.{get_or-replaced, is_replaced, replaced_none, replaced_other, replaced_ext, replaced_more}
 use Rattle.bits.proofs.Tests.{same_test, both_left, both_right, both, untrue}
-use Rattle.config_space.proofs.Slots.{length_reset, split, after}
-use Rattle.config_space.specs.Functions.{in_slot, reset_where}
+use Rattle.config_space.proofs.Slots.{length_reset, same_words, split, after}
+use Rattle.config_space.specs.Functions.{in_slot, in_any_slot, reset_where}
 use Rattle.config_words.specs.inner.Resetting.{between}
 
 -- i is from a up to b, and below d
@@ -71,6 +71,11 @@ module _ (reset : ℕ → ℕ → ℕ → ℕ → ℕ) (live defaults : List ℕ
       replaced_ext _ _ _ _ live
       (λ i m. same_span a n (length defaults) i a b (length defaults) (λ w. record { from = w.from; to = omega arith; has = w.has }) (λ w. record { from = w.from; to = omega arith; has = w.has }))
       (λ i m t. refl)
+
+  -- all the words of the lists
+  pub every-word : reset_where (between 0 (length live)) reset live defaults ≡ reset_where in_any_slot reset live defaults
+  every-word =
+      same_words _ _ reset live defaults (λ i m. both (leb 0 i) (ltb i (length live)) (le-leb 0 i (omega arith)) (lt-ltb i (length live) m))
 
   -- the words of a slot
   pub slot_words : (slot : ℕ) → reset_where (between (min (slot * 64 + 0) (length live)) (min (slot * 64 + 64) (length live))) reset live defaults ≡ reset_where (in_slot slot) reset live defaults

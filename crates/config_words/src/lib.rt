@@ -250,6 +250,7 @@ pub fn link_reset_next(
 pub fn cold_reset(live: &mut [u32], defaults: &[u32])
     ensures { live.new ≡ cold_reset live.old defaults.now }
 {
-    let end = live.len().min(defaults.len());
-    live[..end].copy_from_slice(&defaults[..end]);
+    for n in 0..live.len().min(defaults.len()) {
+        live[n] = defaults[n];
+    }
 }

@@ -37,6 +37,7 @@ fn message_at(input: &[u8], at: usize) -> Option<Message>
 }
 
 // The record at `at`, by its kind; all its bytes are there.
+#[inline(always)]
 pub fn decode_at(input: &[u8], at: usize) -> Record
     requires { (at < length input.now) × (at + size_of (get_or input.now at 0) ≤ length input.now) }
     ensures { result ≡ decoded (drop at input.now) }

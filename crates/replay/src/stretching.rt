@@ -6,7 +6,7 @@ ghost use Rattle.replay.specs.inner.Calls.{Between};
 ghost use Rattle.replay.specs.inner.Stretches.{stamp_before, StepFits, Follows};
 
 use crate::stepping::next_step;
-use crate::writing::{BYTES, put_advance, put_bytes, write_entries};
+use crate::writing::{BYTES, put_advance, put_each, write_entries};
 use crate::{End, Run, Step, Stretch};
 use capture::Replay;
 use ticks::Stamp;
@@ -33,7 +33,7 @@ fn put_step(step: Step, input: &[u8], trace: &mut [u8]) -> usize
             5
         }
         Run::Record(size) => {
-            put_bytes(trace, 0, input, step.at - size, size);
+            put_each(trace, 0, input, step.at - size, size);
             size
         }
     }

@@ -39,6 +39,16 @@ pub fn put_bytes(trace: &mut [u8], at: usize, input: &[u8], from: usize, size: u
     trace[at..at + size].copy_from_slice(&input[from..from + size]);
 }
 
+// The same, one by one, where how many they are is known only when the program runs.
+pub fn put_each(trace: &mut [u8], at: usize, input: &[u8], from: usize, size: usize)
+    requires { (at + size ≤ length trace.old) × (from + size ≤ length input.now) }
+    ensures { trace.new ≡ paste trace.old at (drop from input.now) size }
+{
+    for i in 0..size {
+        trace[at + i] = input[from + i];
+    }
+}
+
 // An advance goes to a trace, from `at` on.
 pub fn put_advance(trace: &mut [u8], at: usize, by: Nanos)
     requires { at + 5 ≤ length trace.old }

@@ -30,7 +30,7 @@ returns-in-Record c =
     let from = a.step.at - size in
     let fits : (size ≤ 17) × (size ≤ a.step.at) = subst (λ (x : Run). RunFits x a.step.at) c.in-Record.is c.requires.0 in (
       omega (arith, fits.0, c.requires.2),
-      ap (take size) c.put_bytes.ensures
+      ap (take size) c.put_each.ensures
           ∙ ap (λ (n : ℕ). take n (paste a.trace.now 0 (drop from input) size)) (sym (zero-add size))
           ∙ take-paste a.trace.now 0 (drop from input) size (omega arith) (omega (arith, length-drop from input, fits.1, c.requires.1))
           ∙ ap (λ (x : Run). run_bytes x a.step.at input) (sym c.in-Record.is),

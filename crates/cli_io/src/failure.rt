@@ -54,6 +54,7 @@ impl From<io::Error> for Failure {
 
 impl Failure {
     // The number of the system's error; never 0: one that has none is an error of input or output.
+    // Kept: the number is the system's own.
     pub fn number(self) -> i32
         ensures { pos 0 <ℤ result }
     {

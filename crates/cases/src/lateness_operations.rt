@@ -11,6 +11,9 @@ const MOST: usize = 9100;
 // Their bytes.
 const BYTES: usize = 72800;
 
+// Number, three counts, least, greatest and sum.
+const WRITTEN: usize = 37;
+
 // 08: the seen times of 32 slots. For each slot a number and the difference is written.
 pub fn lateness_operation(rt: &HostRuntime, state: &State<'_>) -> Result<(), BadCase> {
     let mut image = [0u8; MOMENTS_IMAGE];
@@ -30,15 +33,32 @@ pub fn lateness_operation(rt: &HostRuntime, state: &State<'_>) -> Result<(), Bad
     Ok(())
 }
 
-// Number, three counts, least, greatest and sum.
+// Each in four bytes.
+fn put_counts(bytes: &mut [u8], counts: [u32; 3]) {
+    for (four, count) in bytes.chunks_exact_mut(4).zip(counts) {
+        four.copy_from_slice(&count.to_le_bytes());
+    }
+}
+
+// Each in eight bytes.
+fn put_values(bytes: &mut [u8], values: [i64; 3]) {
+    for (eight, value) in bytes.chunks_exact_mut(8).zip(values) {
+        eight.copy_from_slice(&value.to_le_bytes());
+    }
+}
+
+// The number, the counts and the values.
+fn put_report(bytes: &mut [u8; WRITTEN], r: Report) {
+    bytes[0] = r.number;
+    put_counts(&mut bytes[1..13], [r.early, r.on_time, r.late]);
+    put_values(&mut bytes[13..], [r.least, r.greatest, r.sum]);
+}
+
+// A report is one write.
 fn write_report(rt: &HostRuntime, r: Report) {
-    write_bytes(rt, &[r.number]);
-    for count in [r.early, r.on_time, r.late] {
-        write_bytes(rt, &count.to_le_bytes());
-    }
-    for value in [r.least, r.greatest, r.sum] {
-        write_bytes(rt, &value.to_le_bytes());
-    }
+    let mut written = [0u8; WRITTEN];
+    put_report(&mut written, r);
+    write_bytes(rt, &written);
 }
 
 // 09: a count, at most 9,100, and as many differences.

@@ -9,8 +9,8 @@ use times::code_number;
 // The most bytes of a sheet.
 const MOST: usize = 4096;
 
-// Four codes for each of 32 entries.
-const CODES: usize = 256;
+// The number and the line, then four codes for each of 32 entries.
+const WRITTEN: usize = 259;
 
 // The four codes of an entry.
 fn put_codes(bytes: &mut [u8], entry: &Slot) {
@@ -27,13 +27,14 @@ fn put_entries(bytes: &mut [u8], entries: &[Slot; 32]) {
     }
 }
 
-// The number and the line, then the codes.
+// What was read is one write.
 fn write_read(rt: &HostRuntime, read: &SheetRead) {
+    let mut written = [0u8; WRITTEN];
     let line = read.line.to_le_bytes();
-    let mut codes = [0u8; CODES];
-    put_entries(&mut codes, &read.setup.entries);
-    write_bytes(rt, &[read.number, line[0], line[1]]);
-    write_bytes(rt, &codes);
+    written[0] = read.number;
+    written[1..3].copy_from_slice(&line[..2]);
+    put_entries(&mut written[3..], &read.setup.entries);
+    write_bytes(rt, &written);
 }
 
 // 04: a length, at most 4,096, and the sheet. The entries that it leaves are those of the set-up from here on.

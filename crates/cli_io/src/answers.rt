@@ -1,5 +1,5 @@
 // Answers that are written in large pieces: bytes wait in a buffer until it is full.
-ghost use Rattle.std.specs.Prelude.{◌≡◌, ◌≤◌, ◌+◌, min, ◌↔◌, IsOk, IsNone};
+ghost use Rattle.std.specs.Prelude.{◌≡◌, ◌≤◌, ◌+◌, min, ◌↔◌, IsOk, IsNone, None};
 
 use crate::failure::Failure;
 use crate::input::PIECE;
@@ -7,7 +7,7 @@ use crate::sink::{Sink, Writer};
 
 // The first `count` bytes wait to be written; those after them are room for more.
 // Kept: the count stands beside the bytes, since the bench writes answers into the room after them, and a Vec needs a heap.
-#[derive(Drop)]
+#[derive(Clone, Copy)]
 pub struct Answers<'a> {
     pub bytes: [u8; PIECE],
     pub count: usize,
@@ -19,6 +19,7 @@ impl<'a> Answers<'a> {
     pub fn new(to: Sink<'a>) -> Self
         ensures empty { result.count ≡ 0 }
         ensures to_value { result.writer.to ≡ to.entry }
+        ensures fresh { result.writer.failed ≡ None }
     {
         Answers {
             bytes: [0u8; PIECE],

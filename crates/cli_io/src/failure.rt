@@ -1,11 +1,18 @@
 // Why a read or a write failed.
-ghost use Rattle.std.specs.Prelude.{◌≡◌};
+ghost use Rattle.std.specs.Prelude.{◌≡◌, pos, ◌<ℤ◌};
 
 use crate::files::{complain, complain_line, name_file};
 use std::io;
 use text_line::Page;
 
-// What the system's error means.
+// The number of a system's error, which is never 0.
+#[derive(Clone, Copy, PartialEq, Eq)]
+pub struct ErrorNumber {
+    number: i32,
+    ghost positive: { pos 0 <ℤ number },
+}
+
+// What the system's error means; any other has its number.
 #[derive(Clone, Copy, PartialEq, Eq)]
 pub enum Failure {
     Interrupted,
@@ -14,7 +21,7 @@ pub enum Failure {
     Full,
     TooLarge,
     Directory,
-    Other,
+    Other(ErrorNumber),
 }
 
 // The numbers of the system's errors.
@@ -39,13 +46,29 @@ impl From<io::Error> for Failure {
             Some(ENOSPC) => Failure::Full,
             Some(EFBIG) => Failure::TooLarge,
             Some(EISDIR) => Failure::Directory,
-            Some(error) if error > 0 && error != EIO => Failure::Other,
+            Some(number) if number > 0 && number != EIO => Failure::Other(ErrorNumber { number }),
             _ => Failure::Device,
         }
     }
 }
 
 impl Failure {
+    // The number of the system's error; never 0: one that has none is an error of input or output.
+    // Kept: the number is the system's own.
+    pub fn number(self) -> i32
+        ensures { pos 0 <ℤ result }
+    {
+        match self {
+            Failure::Interrupted => EINTR,
+            Failure::Device => EIO,
+            Failure::NotOpen => EBADF,
+            Failure::Full => ENOSPC,
+            Failure::TooLarge => EFBIG,
+            Failure::Directory => EISDIR,
+            Failure::Other(error) => error.number,
+        }
+    }
+
     fn words(self) -> &'static [u8] {
         match self {
             Failure::Interrupted => b"interrupted",
@@ -54,7 +77,7 @@ impl Failure {
             Failure::Full => b"no space left on the device",
             Failure::TooLarge => b"the file would be too large",
             Failure::Directory => b"a directory",
-            Failure::Other => b"refused by the system",
+            Failure::Other(_) => b"refused by the system",
         }
     }
 

@@ -1,5 +1,8 @@
 // Which file a name stands for: two names are of one file where the system gives them one device and one number there, whether
 // by another path, a symbolic link or a hard link.
+ghost use Rattle.std.specs.Prelude.{◌≡◌};
+ghost use Rattle.cli_io.specs.Identities.{is_same};
+
 use crate::args::arg;
 use crate::files::PATH;
 use std::fs;
@@ -33,10 +36,18 @@ fn identity_of(rt: &HostRuntime, i: usize) -> Option<Identity> {
     identity_in(&found)
 }
 
-// Whether arguments i and j name one file.
-pub fn name_one_file(rt: &HostRuntime, i: usize, j: usize) -> bool {
-    match (identity_of(rt, i), identity_of(rt, j)) {
+// Whether both are known, and are one file.
+#[tactic(auto, unfolding(crate::specs::Identities::is_same))]
+fn is_same(a: Option<Identity>, b: Option<Identity>) -> bool
+    ensures { result ≡ is_same a b }
+{
+    match (a, b) {
         (Some(a), Some(b)) => a == b,
         _ => false,
     }
+}
+
+// Whether arguments i and j name one file.
+pub fn name_one_file(rt: &HostRuntime, i: usize, j: usize) -> bool {
+    is_same(identity_of(rt, i), identity_of(rt, j))
 }

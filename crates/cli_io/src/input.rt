@@ -18,7 +18,7 @@ pub enum Reading {
 
 // A file, and what was read of it and not yet taken: its bytes from `from` up to `to`.
 // Kept: `from` and `to` stand beside the bytes, since a Vec needs a heap.
-#[derive(Drop)]
+#[derive(Clone, Copy)]
 pub struct Input<'a> {
     file: &'a File,
     bytes: [u8; PIECE],
@@ -30,9 +30,12 @@ pub struct Input<'a> {
 }
 
 impl<'a> Input<'a> {
+    ghost use Rattle.cli_io.specs.declared.input.Reading.{Reading};
+
     pub fn new(file: &'a File) -> Self
         ensures from_value { result.from ≡ 0 }
         ensures to_value { result.to ≡ 0 }
+        ensures reading_value { result.reading ≡ Reading.Goes }
     {
         Input {
             file,

@@ -1,5 +1,5 @@
 // Output that is written in large pieces: text waits on a page until it is long.
-ghost use Rattle.std.specs.Prelude.{◌≡◌, ◌≤◌, [], length, ◌↔◌, IsOk, IsNone};
+ghost use Rattle.std.specs.Prelude.{◌≡◌, ◌≤◌, [], length, ◌↔◌, IsOk, IsNone, None};
 
 use crate::failure::Failure;
 use crate::input::PIECE;
@@ -17,6 +17,7 @@ impl<'a> Output<'a> {
     pub fn new(to: Sink<'a>) -> Self
         ensures empty { result.page ≡ [] }
         ensures to_value { result.writer.to ≡ to.entry }
+        ensures fresh { result.writer.failed ≡ None }
     {
         Output {
             page: Page::new(),

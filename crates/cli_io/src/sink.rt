@@ -1,5 +1,5 @@
 // Where bytes are written.
-ghost use Rattle.std.specs.Prelude.{◌≡◌, ◌↔◌, IsOk, IsNone};
+ghost use Rattle.std.specs.Prelude.{◌≡◌, ◌↔◌, IsOk, IsNone, None};
 
 use crate::failure::Failure;
 use std::fs::File;
@@ -40,7 +40,8 @@ pub struct Writer<'a> {
 
 impl<'a> Writer<'a> {
     pub fn new(to: Sink<'a>) -> Self
-        ensures { result.to ≡ to.entry }
+        ensures to_value { result.to ≡ to.entry }
+        ensures fresh { result.failed ≡ None }
     {
         Writer { to, failed: None }
     }

@@ -2,6 +2,7 @@
 ghost use Rattle.std.specs.Prelude.{◌≡◌};
 
 use crate::failure::Failure;
+use crate::text_file::Unread;
 use std::process::ExitCode;
 
 #[derive(Clone, Copy, PartialEq, Eq)]
@@ -19,6 +20,16 @@ impl From<Failure> for Stop {
 
     fn from(_failure: Failure) -> Self {
         Self::Unusable
+    }
+}
+
+impl From<Unread> for Stop {
+    ghost use Rattle.cli_io.specs.declared.stop.Stop.{Stop};
+
+    ghost from_gives = { λ _ stop. stop ≡ Stop.Unusable };
+
+    fn from(_unread: Unread) -> Self {
+        Stop::Unusable
     }
 }
 

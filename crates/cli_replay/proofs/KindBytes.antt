@@ -1,57 +1,65 @@
--- The count of kind bytes goes from one byte to the next.
+-- The count of kind bytes goes from one to the next, and stops where the bytes do.
 use Prim.Native.Nat.{ℕ, zero, suc, ◌+◌, ◌-◌, ◌≤◌, ◌<◌}
 use mathlib.Core.Path.{◌≡◌, refl, ap, sym, ◌∙◌}
 use mathlib.Core.List.{List, [], ◌∷◌}
 use native.Mathlib.Omega.{arith}
-use lib.ListN.{length, get_or, drop, drop_of_length-le}
-use lib.Seq.{drop-cons}
-use Rattle.std.proofs.Common.{add-one}
+use lib.ListN.{length, get_or, take, drop, length-drop}
+use lib.Seq.{take-length}
 use Rattle.cli_replay.specs.Counting.{to_next, kinds_in, ahead_after}
 
--- n kind bytes were passed with the first i bytes, and `ahead` more bytes lie before the next one
-pub record Inv (bytes : List ℕ) (first n i ahead : ℕ) : Type 0 where
-  pub few : n ≤ i
-  pub count : kinds_in first bytes ≡ n + kinds_in ahead (drop i bytes)
-  pub lie : ahead_after first bytes ≡ ahead_after ahead (drop i bytes)
-
--- the bytes after the first i, where there is another
-at-drop : (bytes : List ℕ) (i : ℕ) → i < length bytes → drop i bytes ≡ get_or bytes i 0 ∷ drop (i + 1) bytes
-at-drop bytes i l = rw (add-one, drop-cons bytes i 0) refl
-
--- a kind byte
-pub counts : (bytes : List ℕ) (first n i ahead : ℕ) → Inv bytes first n i ahead → i < length bytes → ahead ≡ 0 → (more next : ℕ) → more ≡ n + 1
-    → next ≡ to_next (get_or bytes i 0) → Inv bytes first more (i + 1) next
-unfolding kinds_in ahead_after
-counts bytes first n i ahead h l z more next m e =
-    let parts = at-drop bytes i l in
-    record {
-      few = omega (arith, h.few, m);
-      count = h.count ∙ rw (parts, z, e, m) (omega arith);
-      lie = h.lie ∙ rw (parts, z, e) refl;
-    }
-
--- another byte
-passes-from : (bytes : List ℕ) (first n i rest : ℕ) → Inv bytes first n i (suc rest) → i < length bytes → Inv bytes first n (i + 1) rest
-unfolding kinds_in ahead_after
-passes-from bytes first n i rest h l =
-    let parts = at-drop bytes i l in
-    record {
-      few = omega (arith, h.few);
-      count = h.count ∙ rw parts refl;
-      lie = h.lie ∙ rw parts refl;
-    }
-
-pub passes : (bytes : List ℕ) (first n i ahead : ℕ) → Inv bytes first n i ahead → i < length bytes → (ahead ≡ 0 → ⊥) → Inv bytes first n (i + 1) (ahead - 1)
-passes bytes first n i zero h l z = absurd (z refl)
-passes bytes first n i (suc rest) h l z =
-    let e : suc rest - 1 ≡ rest = omega arith in
-    rw e (passes-from bytes first n i rest h l)
-
--- at the end
-pub counted : (bytes : List ℕ) (first n i ahead : ℕ) → Inv bytes first n i ahead → length bytes ≤ i → kinds_in first bytes ≡ n
+kinds_on : (k : ℕ) (m : List ℕ) → k < length m → kinds_in k m ≡ suc (kinds_in (to_next (get_or m k 0)) (drop (suc k) m))
 unfolding kinds_in
-counted bytes first n i ahead h l = h.count ∙ rw (drop_of_length-le bytes l) (omega arith)
+kinds_on k [] h = absurd (omega arith)
+kinds_on zero (b ∷ m) h = refl
+kinds_on (suc k) (b ∷ m) h = kinds_on k m (omega arith)
 
-pub left : (bytes : List ℕ) (first n i ahead : ℕ) → Inv bytes first n i ahead → length bytes ≤ i → ahead ≡ ahead_after first bytes
+ahead_on : (k : ℕ) (m : List ℕ) → k < length m → ahead_after k m ≡ ahead_after (to_next (get_or m k 0)) (drop (suc k) m)
 unfolding ahead_after
-left bytes first n i ahead h l = sym (h.lie ∙ rw (drop_of_length-le bytes l) refl)
+ahead_on k [] h = absurd (omega arith)
+ahead_on zero (b ∷ m) h = refl
+ahead_on (suc k) (b ∷ m) h = ahead_on k m (omega arith)
+
+kinds_none : (k : ℕ) (m : List ℕ) → length m ≤ k → kinds_in k m ≡ 0
+unfolding kinds_in
+kinds_none k [] h = refl
+kinds_none zero (b ∷ m) h = absurd (omega arith)
+kinds_none (suc k) (b ∷ m) h = kinds_none k m (omega arith)
+
+ahead_left : (k : ℕ) (m : List ℕ) → length m ≤ k → ahead_after k m ≡ k - length m
+unfolding ahead_after
+ahead_left k [] h = omega arith
+ahead_left zero (b ∷ m) h = absurd (omega arith)
+ahead_left (suc k) (b ∷ m) h = ahead_left k m (omega arith) ∙ omega arith
+
+-- ---- the loop: n kind bytes were passed, `rest` is what comes after the last of them, and `ahead` more bytes lie before the next one
+pub record Inv (bytes : List ℕ) (first n : ℕ) (rest : List ℕ) (ahead : ℕ) : Type 0 where
+  pub few : n + length rest ≤ length bytes
+  pub count : kinds_in first bytes ≡ n + kinds_in ahead rest
+  pub lie : ahead_after first bytes ≡ ahead_after ahead rest
+
+pub starts : (bytes : List ℕ) (first : ℕ) → Inv bytes first 0 bytes first
+starts bytes first = record { few = omega arith; count = omega arith; lie = refl }
+
+-- the bytes behind the kind byte, as the loop cuts them off
+behind : (k : ℕ) (m : List ℕ) → take (length m - (k + 1)) (drop (k + 1) m) ≡ drop (suc k) m
+behind k m =
+    let one : k + 1 ≡ suc k = omega arith in
+    rw one (ap (λ (i : ℕ). take i (drop (suc k) m)) (sym (length-drop (suc k) m)) ∙ take-length (drop (suc k) m))
+
+pub turns : (bytes : List ℕ) (first n : ℕ) (rest : List ℕ) (ahead : ℕ) → Inv bytes first n rest ahead → ahead < length rest
+    → (next : ℕ) → next ≡ to_next (get_or rest ahead 0) → Inv bytes first (n + 1) (take (length rest - (ahead + 1)) (drop (ahead + 1) rest)) next
+turns bytes first n rest ahead h l next e =
+    let long : length (drop (suc ahead) rest) ≡ length rest - suc ahead = length-drop (suc ahead) rest in
+    rw (behind ahead rest) (record {
+      few = omega (arith, h.few, long);
+      count = rw e (omega (arith, h.count, kinds_on ahead rest l));
+      lie = rw e (h.lie ∙ ahead_on ahead rest l);
+    })
+
+pub counted : (bytes : List ℕ) (first n : ℕ) (rest : List ℕ) (ahead : ℕ) → Inv bytes first n rest ahead → length rest ≤ ahead
+    → n ≡ kinds_in first bytes
+counted bytes first n rest ahead h l = omega (arith, h.count, kinds_none ahead rest l)
+
+pub left : (bytes : List ℕ) (first n : ℕ) (rest : List ℕ) (ahead : ℕ) → Inv bytes first n rest ahead → length rest ≤ ahead
+    → ahead - length rest ≡ ahead_after first bytes
+left bytes first n rest ahead h l = sym (h.lie ∙ ahead_left ahead rest l)

@@ -15,7 +15,7 @@ use replay::Replayed;
 use replay_state::stamps::stamp_in;
 
 // The bench and the replay, and the entry that is replayed, as far as its bytes are read; whether only the end is printed.
-#[derive(Drop)]
+#[derive(Clone, Copy)]
 pub struct CaptureSource {
     pub state: ReplaySession,
     entry: Entry,

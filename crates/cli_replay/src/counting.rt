@@ -32,16 +32,16 @@ pub fn count_kinds(kinds: Kinds, bytes: &[u8]) -> Kinds
 {
     let mut n: u64 = 0;
     let mut ahead = kinds.ahead;
-    for b in bytes {
-        if ahead == 0 {
-            n += 1;
-            ahead = to_next(*b);
-        } else {
-            ahead -= 1;
-        }
+    let mut rest = bytes;
+    // Kept: how far the next kind byte lies is known only from this one.
+    while ahead < rest.len() {
+        let kind = rest[ahead];
+        rest = &rest[ahead + 1..];
+        ahead = to_next(kind);
+        n += 1;
     }
     Kinds {
         begun: kinds.begun.wrapping_add(n),
-        ahead,
+        ahead: ahead - rest.len(),
     }
 }

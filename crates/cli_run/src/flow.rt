@@ -1,5 +1,5 @@
 // What flows while a file is fed: the pieces that are read, and the lines and answers that wait to be written.
-ghost use Rattle.std.specs.Prelude.{◌≡◌};
+ghost use Rattle.std.specs.Prelude.{◌≡◌, [], None};
 
 use cli_io::answers::Answers;
 use cli_io::files::complain;
@@ -40,8 +40,17 @@ fn complain_progress(rt: &HostRuntime, megabytes: u64) {
 }
 
 impl<'a> Flow<'a> {
+    ghost use Rattle.cli_io.specs.declared.input.Reading.{Reading};
+
     pub fn new(rt: &'a HostRuntime, way: Way<'a>) -> Flow<'a>
+        ensures from_value { result.input.from ≡ 0 }
+        ensures to_value { result.input.to ≡ 0 }
+        ensures reading_value { result.input.reading ≡ Reading.Goes }
         ensures nothing_left { result.left ≡ 0 }
+        ensures nothing_printed { result.printed.page ≡ [] }
+        ensures printed_fresh { result.printed.writer.failed ≡ None }
+        ensures nothing_kept { result.kept.count ≡ 0 }
+        ensures kept_fresh { result.kept.writer.failed ≡ None }
         ensures quiet_value { result.quiet ≡ way.entry.quiet }
     {
         Flow {

@@ -12,7 +12,7 @@ pub const WORDS: usize = 2048;
 pub const CELLS: usize = 4095;
 
 // A card: what it is set up with, how many messages its queue holds, and the default words of its slots.
-#[derive(Drop)]
+#[derive(Clone, Copy)]
 pub struct Card {
     pub setup: Setup,
     pub queue: usize,

@@ -11,7 +11,7 @@ use decode::gathering::size_of;
 use describe_trace::trace_words::{put_incomplete, put_run, put_unknown};
 
 // The bench, and the record that is fed, as far as its bytes are read.
-#[derive(Drop)]
+#[derive(Clone, Copy)]
 pub struct TraceSource {
     pub session: Session,
     held: Held,

@@ -9,13 +9,10 @@ use describe_state::card_words::{put_default, put_entry, put_front};
 
 fn print_front(out: &mut Output<'_>, card: &Card) {
     let setup = card.setup;
-    put_front(
-        &mut out.page,
-        setup.slots,
-        card.queue,
-        setup.bus,
-        setup.port_id,
-    );
+    out.put(|mut page| {
+        put_front(&mut page, setup.slots, card.queue, setup.bus, setup.port_id);
+        page.close()
+    });
     out.end_line();
 }
 
@@ -25,12 +22,18 @@ fn print_card(rt: &HostRuntime, card: &Card) -> Result<(), Failure> {
     print_front(&mut out, card);
     let setup = card.setup;
     for (slot, entry) in setup.entries.iter().take(setup.slots).enumerate() {
-        put_entry(&mut out.page, slot, *entry);
+        out.put(|mut page| {
+            put_entry(&mut page, slot, *entry);
+            page.close()
+        });
         out.end_line();
     }
     for (index, word) in card.words.iter().enumerate() {
         if *word != 0 {
-            put_default(&mut out.page, index, *word);
+            out.put(|mut page| {
+                put_default(&mut page, index, *word);
+                page.close()
+            });
             out.end_line();
         }
     }

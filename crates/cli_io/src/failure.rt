@@ -3,7 +3,7 @@ ghost use Rattle.std.specs.Prelude.{◌≡◌};
 
 use crate::files::{complain, complain_line, name_file};
 use std::io;
-use text_line::Page;
+use text_line::{LINE, Page};
 
 // What the system's error means.
 #[derive(Clone, Copy, PartialEq, Eq)]
@@ -60,7 +60,8 @@ impl Failure {
 
     // Says that reading the file of argument i failed at this byte.
     pub fn complain_read(self, rt: &HostRuntime, i: usize, offset: u64) {
-        let mut line = Page::new();
+        let mut room = [0u8; LINE];
+        let mut line = Page::over(&mut room, 0);
         name_file(rt, i);
         line.put_named(b"byte ", offset);
         line.put_text(b": can't be read further: ");
@@ -70,7 +71,8 @@ impl Failure {
 
     // Says that writing failed.
     pub fn complain_write(self, rt: &HostRuntime) {
-        let mut line = Page::new();
+        let mut room = [0u8; LINE];
+        let mut line = Page::over(&mut room, 0);
         line.put_text(b"can't be written: ");
         line.put_text(self.words());
         complain_line(rt, &line);

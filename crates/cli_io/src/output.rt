@@ -1,25 +1,27 @@
-// Output that is written in large pieces: text waits on a page until it is long.
-ghost use Rattle.std.specs.Prelude.{◌≡◌, ◌≤◌, [], length, ◌↔◌, IsOk, IsNone};
+// Output that is written in large pieces: text waits until it is long.
+ghost use Rattle.std.specs.Prelude.{◌≡◌, ◌≤◌, ◌↔◌, IsOk, IsNone};
 
 use crate::failure::Failure;
 use crate::input::PIECE;
 use crate::sink::{Sink, Writer};
 use text_line::{LINE, Page};
 
-// What waits to be written, and where it goes.
-#[derive(Drop)]
+// The first `count` bytes wait to be written; those after them are room for more.
+#[derive(Clone, Copy)]
 pub struct Output<'a> {
-    pub page: Page,
+    pub bytes: [u8; PIECE],
+    pub count: usize,
     pub writer: Writer<'a>,
 }
 
 impl<'a> Output<'a> {
     pub fn new(to: Sink<'a>) -> Self
-        ensures empty { result.page ≡ [] }
+        ensures empty { result.count ≡ 0 }
         ensures to_value { result.writer.to ≡ to.entry }
     {
         Output {
-            page: Page::new(),
+            bytes: [0; PIECE],
+            count: 0,
             writer: Writer::new(to),
         }
     }
@@ -33,29 +35,42 @@ impl<'a> Output<'a> {
 
     // Writes what waits, so that nothing waits. Nothing is written after an error, nor where there is nowhere to write.
     pub fn flush(&mut self) -> Result<(), Failure>
-        ensures empty { self.new.page ≡ [] }
+        ensures empty { self.new.count ≡ 0 }
         ensures to_value { self.new.writer.to ≡ self.old.writer.to }
     {
-        let written = self.writer.write(self.page.text());
-        self.page.clear();
+        let written = self.writer.write(&self.bytes[..self.count.min(PIECE)]);
+        self.count = 0;
         written
     }
 
     // Makes room for so many bytes more.
     pub fn make_room(&mut self, wanted: usize)
-        ensures shorter { length self.new.page ≤ length self.old.page }
+        ensures shorter { self.new.count ≤ self.old.count }
         ensures to_value { self.new.writer.to ≡ self.old.writer.to }
     {
-        if PIECE.saturating_sub(self.page.len()) < wanted {
+        if PIECE.saturating_sub(self.count) < wanted {
             let _ = self.flush();
         }
     }
 
-    // The line that was put on the page ends. Afterwards there is room for the next.
+    // Puts a text behind what waits, as far as there is room: it is put on the page there, and gives where it ends.
+    pub fn put<F: FnOnce(Page<'_>) -> usize + Drop>(&mut self, text: F)
+        requires { F.IsAlwaysCallable text }
+        ensures text { (page : _) × (page.at ≡ self.old.count) × (page.line.now ≡ self.old.bytes)
+            × F.post text page self.new.count }
+        ensures to_value { self.new.writer.to ≡ self.old.writer.to }
+    {
+        self.count = text(Page::over(&mut self.bytes, self.count));
+    }
+
+    // The line that was put ends. Afterwards there is room for the next.
     pub fn end_line(&mut self)
         ensures { self.new.writer.to ≡ self.old.writer.to }
     {
-        self.page.put_byte(b'\n');
+        self.put(|mut page| {
+            page.put_byte(b'\n');
+            page.close()
+        });
         self.make_room(LINE);
     }
 }

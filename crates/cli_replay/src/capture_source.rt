@@ -86,16 +86,22 @@ impl CaptureSource {
         let replay = before.replay;
         let stamp = stamp_in(self.entry.stamp);
         let clock = after.port.dev.clock;
-        let page = &mut printed.page;
         if let Some(earlier) = replay.earlier
             && owes_advance(before, stamp)
         {
             let k = usize::from(replay.answered);
             let offset = stamp_offset(before);
-            put_advanced(page, offset, earlier, stamp, k, clock, answer);
+            printed.put(|mut page| {
+                put_advanced(&mut page, offset, earlier, stamp, k, clock, answer);
+                page.close()
+            });
         } else {
             let item = decode(self.entry.held.bytes);
-            put_replayed(page, kind_offset(before), stamp, clock, item, answer);
+            let offset = kind_offset(before);
+            printed.put(|mut page| {
+                put_replayed(&mut page, offset, stamp, clock, item, answer);
+                page.close()
+            });
         }
         printed.end_line();
     }

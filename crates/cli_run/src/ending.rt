@@ -11,21 +11,36 @@ use readiness::Dev;
 
 // Clock and link, and port bits.
 fn print_port(out: &mut Output<'_>, dev: Dev) {
-    put_link(&mut out.page, dev);
+    out.put(|mut page| {
+        put_link(&mut page, dev);
+        page.close()
+    });
     out.end_line();
-    put_port_bits(&mut out.page, dev);
+    out.put(|mut page| {
+        put_port_bits(&mut page, dev);
+        page.close()
+    });
     out.end_line();
-    put_port_control(&mut out.page, dev.control);
+    out.put(|mut page| {
+        put_port_control(&mut page, dev.control);
+        page.close()
+    });
     out.end_line();
 }
 
 // The depth of the queue, and its messages, oldest first.
 fn print_queue(out: &mut Output<'_>, queue: Queue, cells: &[u32]) {
-    put_queue(&mut out.page, queue.depth, cells.len());
+    out.put(|mut page| {
+        put_queue(&mut page, queue.depth, cells.len());
+        page.close()
+    });
     out.end_line();
     for i in 0..queue.depth {
-        out.page.put_text(b"  ");
-        put_queued(&mut out.page, cells, queue.start, i);
+        out.put(|mut page| {
+            page.put_text(b"  ");
+            put_queued(&mut page, cells, queue.start, i);
+            page.close()
+        });
         out.end_line();
     }
 }
@@ -37,20 +52,20 @@ pub fn print_state(out: &mut Output<'_>, memory: &Memory<'_>, s: &Session) {
     print_queue(out, dev.queue, &*memory.cells);
     let slots = memory.card.setup.slots;
     for (slot, status) in s.statuses.iter().take(slots).enumerate() {
-        put_slot(&mut out.page, slot, status.phase);
+        out.put(|mut page| {
+            put_slot(&mut page, slot, status.phase);
+            page.close()
+        });
         out.end_line();
     }
 }
 
 // Number, bytes consumed and records; and the state.
 pub fn print_ending(out: &mut Output<'_>, memory: &Memory<'_>, s: &Session) {
-    put_end(
-        &mut out.page,
-        s.number,
-        s.offset,
-        s.records,
-        s.port.carried_len,
-    );
+    out.put(|mut page| {
+        put_end(&mut page, s.number, s.offset, s.records, s.port.carried_len);
+        page.close()
+    });
     out.end_line();
     print_state(out, memory, s);
 }

@@ -33,7 +33,8 @@ pub struct Flow<'a> {
 const STRIDE: u64 = 16777216;
 
 fn complain_progress(rt: &HostRuntime, megabytes: u64) {
-    let mut page = Page::new();
+    let mut room = [0u8; 32];
+    let mut page = Page::over(&mut room, 0);
     page.put_named(b"\r", megabytes);
     page.put_text(b" MB");
     complain(rt, page.text());

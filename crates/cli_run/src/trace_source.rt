@@ -32,12 +32,17 @@ impl TraceSource {
     fn print_call(&self, after: Session, answer: &[u8], printed: &mut Output<'_>) {
         let offset = self.session.record_offset();
         let bytes = self.held.bytes;
-        let page = &mut printed.page;
         if after.number == 31 {
-            put_unknown(page, offset, bytes[0]);
+            printed.put(|mut page| {
+                put_unknown(&mut page, offset, bytes[0]);
+                page.close()
+            });
         } else {
             let clock = after.port.dev.clock;
-            put_run(page, offset, clock, decode(bytes), answer);
+            printed.put(|mut page| {
+                put_run(&mut page, offset, clock, decode(bytes), answer);
+                page.close()
+            });
         }
         printed.end_line();
     }
@@ -73,13 +78,11 @@ impl Source for TraceSource {
         let port = self.session.port;
         if port.carried_len > 0 {
             let kind = port.carried[0];
-            put_incomplete(
-                &mut printed.page,
-                self.session.record_offset(),
-                kind,
-                port.carried_len,
-                size_of(kind),
-            );
+            let offset = self.session.record_offset();
+            printed.put(|mut page| {
+                put_incomplete(&mut page, offset, kind, port.carried_len, size_of(kind));
+                page.close()
+            });
             printed.end_line();
         }
     }

@@ -22,11 +22,20 @@ impl Trace {
     fn print_held(&self, out: &mut Output<'_>) {
         let Held { bytes, count, size } = self.held;
         if size == 0 {
-            put_unknown(&mut out.page, self.offset, bytes[0]);
+            out.put(|mut page| {
+                put_unknown(&mut page, self.offset, bytes[0]);
+                page.close()
+            });
         } else if count < size {
-            put_incomplete(&mut out.page, self.offset, bytes[0], count, size);
+            out.put(|mut page| {
+                put_incomplete(&mut page, self.offset, bytes[0], count, size);
+                page.close()
+            });
         } else {
-            put_shown(&mut out.page, self.offset, decode::decoding::decode(bytes));
+            out.put(|mut page| {
+                put_shown(&mut page, self.offset, decode::decoding::decode(bytes));
+                page.close()
+            });
         }
         out.end_line();
     }
@@ -55,7 +64,7 @@ impl Shown for Trace {
         }
     }
 
-    fn put_totals(&self, page: &mut Page) {
+    fn put_totals(&self, page: &mut Page<'_>) {
         put_totals(&mut *page, self.records, self.offset);
     }
 

@@ -1,16 +1,16 @@
 -- Texts put into a line, and on a page: one after another is their join.
 use Prim.Native.Nat.{ℕ, zero, suc, ◌+◌, ◌≤◌, ◌<◌}
 use mathlib.Core.Path.{◌≡◌, refl, ap, sym, ◌∙◌}
-use mathlib.Core.Bool.{true, false}
+use mathlib.Core.Bool.{Bool, true, false}
 use mathlib.Core.List.{List, [], ◌∷◌, ◌++◌, append-nil, append_assoc}
 use native.Mathlib.Omega.{arith}
 use native.Mathlib.Numerals.{add-one}
-use lib.ListN.{length, get_or, set, take}
+use lib.ListN.{length, get_or, set, take, length-set}
 use lib.Seq.{take-suc}
 use borrow.Author.Tests.{lt-ltb, le-ltb}
 use lib.Dec.{ltb}
 use Rattle.text_line.specs.declared.text.Page.{Page}
-use Rattle.text_line.specs.Line.{Lined, lined, put_byte, puts}
+use Rattle.text_line.specs.Line.{Lined, lined, put_byte, puts, Put}
 use Rattle.text_line.specs.Page.{lined_on, with_lined, put}
 use Rattle.text_line.specs.Text.{spaced_of, bytes_from, bytes_of}
 
@@ -20,7 +20,33 @@ unfolding puts
 puts_append [] b x = refl
 puts_append (c ∷ a) b x = puts_append a b (put_byte c x)
 
--- and on a page
+pub lined_then : {a b l m n : List ℕ} {i j k : ℕ} → Put a i l j m → Put b j m k n → Put (a ++ b) i l k n
+lined_then {a} {b} {l} {i = i} e f = record { so = f.so ∙ ap (puts b) e.so ∙ sym (puts_append a b (lined i l)) }
+
+-- nothing
+pub nothing : {l : List ℕ} {i : ℕ} → Put [] i l i l
+unfolding puts
+nothing = record { so = refl }
+
+-- the same text, said in another way
+pub alike : {a b l m : List ℕ} {i j : ℕ} → a ≡ b → Put a i l j m → Put b i l j m
+alike {l = l} {i = i} e f = record { so = f.so ∙ ap (λ (t : List ℕ). puts t (lined i l)) e }
+
+-- the line keeps its length
+byte_long : (b : ℕ) (x : Lined) (t : Bool) → ltb x.at (length x.line) ≡ t → length (put_byte b x).line ≡ length x.line
+unfolding put_byte
+byte_long b x true e = simp (e, length-set)
+byte_long b x false e = simp e
+
+long_puts : (text : List ℕ) (x : Lined) → length (puts text x).line ≡ length x.line
+unfolding puts
+long_puts [] x = refl
+long_puts (b ∷ text) x = long_puts text (put_byte b x) ∙ byte_long b x (ltb x.at (length x.line)) refl
+
+pub put_long : {a l m : List ℕ} {i j : ℕ} → Put a i l j m → length m ≡ length l
+put_long {a} {l} {i = i} e = ap (λ (x : Lined). length x.line) e.so ∙ long_puts a (lined i l)
+
+-- one text and then another, on a page
 pub put_append : (a b : List ℕ) (page : Page) → put (a ++ b) page ≡ put b (put a page)
 unfolding put
 put_append a b page = ap (with_lined page) (puts_append a b (lined_on page))

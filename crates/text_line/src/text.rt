@@ -65,9 +65,9 @@ impl<'a> Page<'a> {
     }
 
     pub fn len(&self) -> usize
-        ensures { result ≡ self.now.at }
+        ensures { result ≡ length (written self.now) }
     {
-        self.at
+        self.text().len()
     }
 
     // The next text goes to the front again.

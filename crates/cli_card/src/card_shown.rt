@@ -9,10 +9,7 @@ use describe_state::card_words::{put_default, put_entry, put_front};
 
 fn print_front(out: &mut Output<'_>, card: &Card) {
     let setup = card.setup;
-    out.put(|mut page| {
-        put_front(&mut page, setup.slots, card.queue, setup.bus, setup.port_id);
-        page.close()
-    });
+    out.put(|page| put_front(page, setup.slots, card.queue, setup.bus, setup.port_id));
     out.end_line();
 }
 
@@ -22,18 +19,12 @@ fn print_card(rt: &HostRuntime, card: &Card) -> Result<(), Failure> {
     print_front(&mut out, card);
     let setup = card.setup;
     for (slot, entry) in setup.entries.iter().take(setup.slots).enumerate() {
-        out.put(|mut page| {
-            put_entry(&mut page, slot, *entry);
-            page.close()
-        });
+        out.put(|page| put_entry(page, slot, *entry));
         out.end_line();
     }
     for (index, word) in card.words.iter().enumerate() {
         if *word != 0 {
-            out.put(|mut page| {
-                put_default(&mut page, index, *word);
-                page.close()
-            });
+            out.put(|page| put_default(page, index, *word));
             out.end_line();
         }
     }

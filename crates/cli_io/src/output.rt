@@ -14,6 +14,15 @@ pub struct Output<'a> {
     pub writer: Writer<'a>,
 }
 
+// Puts a text on the page over a line, whose next text goes to an index: the index after it.
+fn put_at<F: FnOnce(&mut Page<'_>) + Drop>(line: &mut [u8], at: usize, text: F) -> usize
+    requires { F.IsAlwaysCallable text }
+{
+    let mut page = Page::over(line, at);
+    text(&mut page);
+    page.close()
+}
+
 impl<'a> Output<'a> {
     pub fn new(to: Sink<'a>) -> Self
         ensures empty { result.count ≡ 0 }
@@ -53,24 +62,19 @@ impl<'a> Output<'a> {
         }
     }
 
-    // Puts a text behind what waits, as far as there is room: it is put on the page there, and gives where it ends.
-    pub fn put<F: FnOnce(Page<'_>) -> usize + Drop>(&mut self, text: F)
+    // Puts a text behind what waits, as far as there is room.
+    pub fn put<F: FnOnce(&mut Page<'_>) + Drop>(&mut self, text: F)
         requires { F.IsAlwaysCallable text }
-        ensures text { (page : _) × (page.at ≡ self.old.count) × (page.line.now ≡ self.old.bytes)
-            × F.post text page self.new.count }
         ensures to_value { self.new.writer.to ≡ self.old.writer.to }
     {
-        self.count = text(Page::over(&mut self.bytes, self.count));
+        self.count = put_at(&mut self.bytes, self.count, text);
     }
 
     // The line that was put ends. Afterwards there is room for the next.
     pub fn end_line(&mut self)
         ensures { self.new.writer.to ≡ self.old.writer.to }
     {
-        self.put(|mut page| {
-            page.put_byte(b'\n');
-            page.close()
-        });
+        self.put(|page| page.put_byte(b'\n'));
         self.make_room(LINE);
     }
 }

@@ -22,10 +22,9 @@ impl Outputs<'_> {
     pub fn begin_rows(&mut self)
         ensures { self.new.rows.writer.to ≡ self.old.rows.writer.to }
     {
-        self.rows.put(|mut page| {
-            csv::put_header(&mut page);
+        self.rows.put(|page| {
+            csv::put_header(page);
             page.put_byte(b'\n');
-            page.close()
         });
     }
 
@@ -35,11 +34,10 @@ impl Outputs<'_> {
         ensures { self.new.rows.writer.to ≡ self.old.rows.writer.to }
     {
         self.printed.make_room(ROOM);
-        self.printed.put(|mut page| {
+        self.printed.put(|page| {
             page.put_text(name);
             page.put_text(b": ");
-            rows::put_row(&mut page, slot, bench, seen);
-            page.close()
+            rows::put_row(page, slot, bench, seen);
         });
         self.printed.end_line();
     }
@@ -50,10 +48,9 @@ impl Outputs<'_> {
         ensures { self.new.rows.writer.to ≡ self.old.rows.writer.to }
     {
         self.rows.make_room(ROOM);
-        self.rows.put(|mut page| {
-            csv::put_row(&mut page, name, slot, bench, seen);
+        self.rows.put(|page| {
+            csv::put_row(page, name, slot, bench, seen);
             page.put_byte(b'\n');
-            page.close()
         });
         self.rows.make_room(ROOM);
     }

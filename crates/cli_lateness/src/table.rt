@@ -36,21 +36,19 @@ fn put_totals(page: &mut Page<'_>, r: Report) {
 
 // The line of all differences.
 fn print_total(out: &mut Output<'_>, r: Report) {
-    out.put(|mut page| {
+    out.put(|page| {
         page.put_text(b"all differences: ");
-        put_totals(&mut page, r);
-        page.close()
+        put_totals(page, r);
     });
     out.end_line();
 }
 
 // The line of a slot's differences.
 fn print_slot_total(out: &mut Output<'_>, slot: usize, r: Report) {
-    out.put(|mut page| {
+    out.put(|page| {
         page.put_named(b"slot ", slot as u64);
         page.put_text(b": ");
-        put_totals(&mut page, r);
-        page.close()
+        put_totals(page, r);
     });
     out.end_line();
 }
@@ -92,10 +90,7 @@ pub fn print_table(out: &mut Output<'_>, slots: usize, bench: Moments, seen: Mom
     for slot in 0..slots.min(32) {
         let made = bench_time(slots, bench, slot);
         let first = bench_time(slots, seen, slot);
-        out.put(|mut page| {
-            put_row(&mut page, slot as u64, made, first);
-            page.close()
-        });
+        out.put(|page| put_row(page, slot as u64, made, first));
         out.end_line();
     }
     let r = total_of_capture(slots, bench, seen);

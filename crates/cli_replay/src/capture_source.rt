@@ -91,17 +91,11 @@ impl CaptureSource {
         {
             let k = usize::from(replay.answered);
             let offset = stamp_offset(before);
-            printed.put(|mut page| {
-                put_advanced(&mut page, offset, earlier, stamp, k, clock, answer);
-                page.close()
-            });
+            printed.put(|page| put_advanced(page, offset, earlier, stamp, k, clock, answer));
         } else {
             let item = decode(self.entry.held.bytes);
             let offset = kind_offset(before);
-            printed.put(|mut page| {
-                put_replayed(&mut page, offset, stamp, clock, item, answer);
-                page.close()
-            });
+            printed.put(|page| put_replayed(page, offset, stamp, clock, item, answer));
         }
         printed.end_line();
     }

@@ -11,10 +11,7 @@ use describe_capture::finding::fault_byte;
 fn print_fault(out: &mut Output<'_>, s: ReplaySession) {
     let fault = fault_of(s);
     if fault.is_some() {
-        out.put(|mut page| {
-            put_fault_line(&mut page, fault_byte(s.session.offset, fault), fault);
-            page.close()
-        });
+        out.put(|page| put_fault_line(page, fault_byte(s.session.offset, fault), fault));
         out.end_line();
     }
 }
@@ -29,9 +26,9 @@ pub fn print_replay_ending(
     if !quiet {
         print_fault(out, s);
     }
-    out.put(|mut page| {
+    out.put(|page| {
         put_replay_end(
-            &mut page,
+            page,
             s.session.number,
             s.session.offset,
             records_run(s),
@@ -39,7 +36,6 @@ pub fn print_replay_ending(
             carried_of(s),
             s.replay.stamp_len,
         );
-        page.close()
     });
     out.end_line();
     print_state(out, memory, &s.session);

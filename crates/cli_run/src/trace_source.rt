@@ -33,16 +33,10 @@ impl TraceSource {
         let offset = self.session.record_offset();
         let bytes = self.held.bytes;
         if after.number == 31 {
-            printed.put(|mut page| {
-                put_unknown(&mut page, offset, bytes[0]);
-                page.close()
-            });
+            printed.put(|page| put_unknown(page, offset, bytes[0]));
         } else {
             let clock = after.port.dev.clock;
-            printed.put(|mut page| {
-                put_run(&mut page, offset, clock, decode(bytes), answer);
-                page.close()
-            });
+            printed.put(|page| put_run(page, offset, clock, decode(bytes), answer));
         }
         printed.end_line();
     }
@@ -79,10 +73,7 @@ impl Source for TraceSource {
         if port.carried_len > 0 {
             let kind = port.carried[0];
             let offset = self.session.record_offset();
-            printed.put(|mut page| {
-                put_incomplete(&mut page, offset, kind, port.carried_len, size_of(kind));
-                page.close()
-            });
+            printed.put(|page| put_incomplete(page, offset, kind, port.carried_len, size_of(kind)));
             printed.end_line();
         }
     }

@@ -91,10 +91,7 @@ fn tell_message(rt: &HostRuntime, bytes: &[u8]) -> Result<(), Stop> {
         return Err(complain_message(rt, bytes));
     }
     let mut out = Output::new(Sink::Output(rt));
-    out.put(|mut page| {
-        put_message(&mut page, message);
-        page.close()
-    });
+    out.put(|page| put_message(page, message));
     print_line(rt, &mut out)
 }
 
@@ -143,10 +140,7 @@ fn write_message(rt: &HostRuntime, kind: u8, reason: Option<u8>) -> Result<(), S
         return Err(bad_usage(rt, b"message wants a reason of one hex digit"));
     }
     let mut out = Output::new(Sink::Output(rt));
-    out.put(|mut page| {
-        page.put_bytes(&bytes);
-        page.close()
-    });
+    out.put(|page| page.put_bytes(&bytes));
     print_line(rt, &mut out)
 }
 

@@ -22,20 +22,11 @@ impl Trace {
     fn print_held(&self, out: &mut Output<'_>) {
         let Held { bytes, count, size } = self.held;
         if size == 0 {
-            out.put(|mut page| {
-                put_unknown(&mut page, self.offset, bytes[0]);
-                page.close()
-            });
+            out.put(|page| put_unknown(page, self.offset, bytes[0]));
         } else if count < size {
-            out.put(|mut page| {
-                put_incomplete(&mut page, self.offset, bytes[0], count, size);
-                page.close()
-            });
+            out.put(|page| put_incomplete(page, self.offset, bytes[0], count, size));
         } else {
-            out.put(|mut page| {
-                put_shown(&mut page, self.offset, decode::decoding::decode(bytes));
-                page.close()
-            });
+            out.put(|page| put_shown(page, self.offset, decode::decoding::decode(bytes)));
         }
         out.end_line();
     }

@@ -46,10 +46,7 @@ impl Capture {
         let stamp = self.stamp();
         let record = decode::decoding::decode(self.entry.held.bytes);
         let at = self.offset.wrapping_add(4);
-        out.put(|mut page| {
-            put_entry(&mut page, at, self.earlier, stamp, record);
-            page.close()
-        });
+        out.put(|page| put_entry(page, at, self.earlier, stamp, record));
         out.end_line();
         self.nanos = self.nanos.wrapping_add(self.nanos_since());
         self.offset = self.next_byte();
@@ -81,10 +78,7 @@ impl Capture {
 
     // Its line, where the next byte is at `next`.
     fn show_fault(&mut self, fault: Option<CaptureFault>, next: u64, out: &mut Output<'_>) {
-        out.put(|mut page| {
-            put_fault_line(&mut page, fault_byte(next, fault), fault);
-            page.close()
-        });
+        out.put(|page| put_fault_line(page, fault_byte(next, fault), fault));
         out.end_line();
         self.stopped_at = next;
     }

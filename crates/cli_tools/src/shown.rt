@@ -68,10 +68,7 @@ pub fn show_file<S: Shown>(
     let mut input = Input::new(file);
     let mut out = Output::new(Sink::Output(rt));
     show_all(&mut *shown, &mut input, &mut out);
-    out.put(|mut page| {
-        shown.put_totals(&mut page);
-        page.close()
-    });
+    out.put(|page| shown.put_totals(page));
     out.end_line();
     let written = after_printing(rt, out.flush());
     if let Reading::Failed(failure) = input.reading() {

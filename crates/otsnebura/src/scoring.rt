@@ -92,11 +92,10 @@ fn print_early(out: &mut Output<'_>, name: &[u8], state: ReplaySession) {
     let fault = fault_of(state);
     out.make_room(ROOM);
     let byte = fault_byte(state.session.offset, fault);
-    out.put(|mut page| {
+    out.put(|page| {
         page.put_text(name);
         page.put_text(b": ends early: ");
-        put_fault_message(&mut page, byte, fault);
-        page.close()
+        put_fault_message(page, byte, fault);
     });
     out.end_line();
 }

@@ -1,9 +1,10 @@
 -- Numbers in hex and decimal.
-use Prim.Native.Nat.{ℕ, zero, suc, ◌-◌, ◌*◌, ◌/◌, ◌%◌, ◌^◌, ◌≤◌, ◌<◌}
+use Prim.Native.Nat.{ℕ, zero, suc, ◌+◌, ◌-◌, ◌*◌, ◌/◌, ◌%◌, ◌^◌, ◌≤◌, ◌<◌}
 use mathlib.Core.Path.{◌≡◌, refl, ap}
 use mathlib.Core.Bool.{Bool, true, false}
 use mathlib.Core.List.{List, [], ◌∷◌, ◌++◌}
 use native.Mathlib.Omega.{arith}
+use native.Mathlib.Numerals.{add-one}
 use native.Mathlib.Nat.{div-div-eq-div-mul, div-eq_of_lt, div-lt_iff_lt-mul, le-div_iff_mul-le, mod-eq_of_lt, mod-lt, pow-suc, pow-le-pow_right}
 use borrow.Author.Tests.{lt-ltb, le-ltb, leb-true, leb-false}
 use lib.Dec.{leb}
@@ -31,25 +32,19 @@ none_above n k h g =
     let e : n / 16 ^ k ≡ 0 = div-eq_of_lt b in
     rw e refl
 
--- the digits from a place on, and those from the place below it
-pub next_digit : (k n place : ℕ) → 0 < place → place ≤ k
-    → hex_of (k - place) (n / 16 ^ place) ++ (glyph_of (n / 16 ^ (place - 1) % 16) ∷ []) ≡ hex_of (k - (place - 1)) (n / 16 ^ (place - 1))
+-- the highest i digits, and one more
+pub next_digit : (k n i : ℕ) → i < k → hex_of i (n / 16 ^ (k - i)) ++ (glyph_of (n / 16 ^ (k - 1 - i) % 16) ∷ []) ≡ hex_of (i + 1) (n / 16 ^ (k - (i + 1)))
 unfolding hex_of
-next_digit k n zero g h = absurd (omega arith)
-next_digit k n (suc place) g h =
-    let p : suc place - 1 ≡ place = omega arith in
-    let e : k - place ≡ suc (k - suc place) = omega arith in
-    rw (p, e, pow-suc 16 place, div-div-eq-div-mul n (16 ^ place) 16) refl
+next_digit k n i h =
+    let e : k - i ≡ suc (k - 1 - i) = omega arith in
+    let f : k - (i + 1) ≡ k - 1 - i = omega arith in
+    rw (e, f, add-one, pow-suc 16 (k - 1 - i), div-div-eq-div-mul n (16 ^ (k - 1 - i)) 16) refl
 
-pub no_digits : (k n : ℕ) → hex_of (k - k) (n / 16 ^ k) ≡ []
-unfolding hex_of
-no_digits k n = let e : k - k ≡ 0 = omega arith in rw e refl
-
-pub all_digits : (k n : ℕ) → hex_of (k - 0) (n / 16 ^ 0) ≡ hex_of k n
-all_digits k n =
-    let e : k - 0 ≡ k = omega arith in
+pub all_digits : (k i n : ℕ) → i ≡ k → hex_of i (n / 16 ^ (k - i)) ≡ hex_of k n
+all_digits k i n e =
+    let z : k - k ≡ 0 = omega arith in
     let f : n / 16 ^ 0 ≡ n = omega arith in
-    rw (e, f) refl
+    rw (e, z, f) refl
 
 -- ---- decimal
 

@@ -57,6 +57,13 @@ impl<'a> Page<'a> {
         self.at
     }
 
+    // The index at which the next text goes.
+    pub fn at(&self) -> usize
+        ensures { result ≡ self.now.at }
+    {
+        self.at
+    }
+
     // What stands on the page.
     pub fn text(&self) -> &[u8]
         ensures { result.now ≡ written self.now }
@@ -113,9 +120,8 @@ impl<'a> Page<'a> {
     pub fn put_hex(&mut self, k: usize, n: u64)
         ensures { self.new ≡ put (hex_of k n) self.old }
     {
-        let mut place = k;
-        while place > 0 {
-            place -= 1;
+        for i in 0..k {
+            let place = k - 1 - i;
             self.put_byte(glyph(hex_digit(n, place)));
         }
     }

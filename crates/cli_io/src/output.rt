@@ -1,5 +1,7 @@
 // Output that is written in large pieces: text waits until it is long.
 ghost use Rattle.std.specs.Prelude.{◌≡◌, ◌≤◌, ◌↔◌, IsOk, IsNone};
+ghost use Rattle.std.specs.Fn.{FnOnceReturnsAtMut};
+ghost use Rattle.cli_io.specs.Putting.{Puts};
 
 use crate::failure::Failure;
 use crate::input::PIECE;
@@ -17,6 +19,7 @@ pub struct Output<'a> {
 // Puts a text on the page over a line, whose next text goes to an index: the index after it.
 fn put_at<F: FnOnce(&mut Page<'_>) + Drop>(line: &mut [u8], at: usize, text: F) -> usize
     requires { F.IsAlwaysCallable text }
+    ensures { Puts (λ given left. FnOnceReturnsAtMut F.FnOnce text given tt left) at line.old result line.new }
 {
     let mut page = Page::over(line, at);
     text(&mut page);
@@ -65,6 +68,8 @@ impl<'a> Output<'a> {
     // Puts a text behind what waits, as far as there is room.
     pub fn put<F: FnOnce(&mut Page<'_>) + Drop>(&mut self, text: F)
         requires { F.IsAlwaysCallable text }
+        ensures text { Puts (λ given left. FnOnceReturnsAtMut F.FnOnce text given tt left)
+            self.old.count self.old.bytes self.new.count self.new.bytes }
         ensures to_value { self.new.writer.to ≡ self.old.writer.to }
     {
         self.count = put_at(&mut self.bytes, self.count, text);

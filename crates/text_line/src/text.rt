@@ -1,7 +1,6 @@
 // A page, and texts and numbers put on it.
-ghost use Rattle.std.specs.Prelude.{◌≡◌, ◌<◌, ◌*◌, ◌/◌, ◌%◌, ◌^◌, cond, [], ◌∷◌, length};
-ghost use Rattle.text_line.specs.Line.{lined};
-ghost use Rattle.text_line.specs.Page.{page_over, lined_on, with_lined, put, written};
+ghost use Rattle.std.specs.Prelude.{◌≡◌, ◌/◌, ◌%◌, ◌^◌, cond, [], ◌∷◌, length};
+ghost use Rattle.text_line.specs.Page.{page_over, put, written};
 ghost use Rattle.text_line.specs.Text.{glyph_of, hex_of, decimal_of, three_of, six_of, grouped_of, named, text_if, short_margin, margin_of, column_of, spaced_of, bytes_of};
 
 // The longest line that is written.

@@ -4,7 +4,7 @@ use cli_io::files::{complain, complain_line, name_file};
 use cli_io::stop::Stop;
 use cli_io::text_file::{TEXT, read_text};
 use cli_run::memory::{Card, WORDS};
-use text_line::Page;
+use text_line::{LINE, Page};
 
 // Why a text is no card, and what was expected.
 fn text_of(reason: Reason) -> &'static [u8] {
@@ -32,7 +32,8 @@ fn text_of(reason: Reason) -> &'static [u8] {
 }
 
 fn refuse(rt: &HostRuntime, i: usize, number: usize, reason: Reason) -> Stop {
-    let mut page = Page::new();
+    let mut room = [0u8; LINE];
+    let mut page = Page::over(&mut room, 0);
     name_file(rt, i);
     page.put_named(b"line ", number as u64);
     page.put_text(b": ");

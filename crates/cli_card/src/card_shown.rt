@@ -9,13 +9,7 @@ use describe_state::card_words::{put_default, put_entry, put_front};
 
 fn print_front(out: &mut Output<'_>, card: &Card) {
     let setup = card.setup;
-    put_front(
-        &mut out.page,
-        setup.slots,
-        card.queue,
-        setup.bus,
-        setup.port_id,
-    );
+    out.put(|page| put_front(page, setup.slots, card.queue, setup.bus, setup.port_id));
     out.end_line();
 }
 
@@ -25,12 +19,12 @@ fn print_card(rt: &HostRuntime, card: &Card) -> Result<(), Failure> {
     print_front(&mut out, card);
     let setup = card.setup;
     for (slot, entry) in setup.entries.iter().take(setup.slots).enumerate() {
-        put_entry(&mut out.page, slot, *entry);
+        out.put(|page| put_entry(page, slot, *entry));
         out.end_line();
     }
     for (index, word) in card.words.iter().enumerate() {
         if *word != 0 {
-            put_default(&mut out.page, index, *word);
+            out.put(|page| put_default(page, index, *word));
             out.end_line();
         }
     }

@@ -9,7 +9,7 @@ use describe_trace::trace_words::put_refusal;
 use execute::kinds::kind_of_entry;
 use readiness::{Setup, Slot};
 use registers::Kind;
-use text_line::Page;
+use text_line::{LINE, Page};
 use times::Code;
 
 // ---- A time code
@@ -22,7 +22,7 @@ fn is_fine_entry(entry: Slot) -> bool {
         && times::allowed(entry.d3hot)
 }
 
-fn put_bad_code(page: &mut Page, name: &[u8], code: Code) {
+fn put_bad_code(page: &mut Page<'_>, name: &[u8], code: Code) {
     if !times::allowed(code) {
         page.put_text(name);
         page.put_hex(3, u64::from(times::code_number(code)));
@@ -31,7 +31,7 @@ fn put_bad_code(page: &mut Page, name: &[u8], code: Code) {
 }
 
 // The first slot with a code that isn't allowed, and its codes that aren't.
-fn put_bad_slot(page: &mut Page, setup: Setup) {
+fn put_bad_slot(page: &mut Page<'_>, setup: Setup) {
     let bad = setup
         .entries
         .iter()
@@ -69,7 +69,7 @@ fn zeros_of(setup: Setup, index: usize) -> u32 {
 }
 
 // The first default word that isn't allowed, and what was expected of it.
-fn put_bad_word(page: &mut Page, setup: Setup, words: &[u32]) {
+fn put_bad_word(page: &mut Page<'_>, setup: Setup, words: &[u32]) {
     for (index, word) in words.iter().enumerate() {
         if !is_fine_word(setup, index, *word) {
             page.put_named(b": slot ", (index / 64) as u64);
@@ -90,7 +90,8 @@ fn put_bad_word(page: &mut Page, setup: Setup, words: &[u32]) {
 pub fn complain_refusal(rt: &HostRuntime, i: usize, card: &Card, number: u8) -> Stop
     ensures { result ≡ Stop.Refused }
 {
-    let mut page = Page::new();
+    let mut room = [0u8; LINE];
+    let mut page = Page::over(&mut room, 0);
     name_file(rt, i);
     put_refusal(&mut page, number);
     // Kept: the numbers of refusals are the papers'.

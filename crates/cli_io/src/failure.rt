@@ -3,7 +3,7 @@ ghost use Rattle.std.specs.Prelude.{◌≡◌, pos, ◌<ℤ◌};
 
 use crate::files::{complain, complain_line, name_file};
 use std::io;
-use text_line::Page;
+use text_line::{LINE, Page};
 
 // The number of a system's error, which is never 0.
 #[derive(Clone, Copy, PartialEq, Eq)]
@@ -83,7 +83,8 @@ impl Failure {
 
     // Says that reading the file of argument i failed at this byte.
     pub fn complain_read(self, rt: &HostRuntime, i: usize, offset: u64) {
-        let mut line = Page::new();
+        let mut room = [0u8; LINE];
+        let mut line = Page::over(&mut room, 0);
         name_file(rt, i);
         line.put_named(b"byte ", offset);
         line.put_text(b": can't be read further: ");
@@ -93,7 +94,8 @@ impl Failure {
 
     // Says that writing failed.
     pub fn complain_write(self, rt: &HostRuntime) {
-        let mut line = Page::new();
+        let mut room = [0u8; LINE];
+        let mut line = Page::over(&mut room, 0);
         line.put_text(b"can't be written: ");
         line.put_text(self.words());
         complain_line(rt, &line);

@@ -3,7 +3,7 @@ ghost use Rattle.std.specs.Prelude.{◌≡◌};
 ghost use Rattle.cli_io.specs.Faults.{fault_of};
 
 use crate::files::{complain_line, name_file};
-use text_line::Page;
+use text_line::{LINE, Page};
 
 // A byte that is no kind, or a record that the file's end cuts off: its first byte, how many of its bytes there are, and how many it has.
 #[derive(Clone, Copy, PartialEq, Eq)]
@@ -26,7 +26,7 @@ impl Fault {
         }
     }
 
-    fn put(self, line: &mut Page) {
+    fn put(self, line: &mut Page<'_>) {
         match self {
             Fault::NoKind { kind } => {
                 line.put_hex(2, u64::from(kind));
@@ -43,7 +43,8 @@ impl Fault {
 
     // Says what is wrong at this byte of the file that argument i names.
     pub fn complain(self, rt: &HostRuntime, i: usize, offset: u64) {
-        let mut line = Page::new();
+        let mut room = [0u8; LINE];
+        let mut line = Page::over(&mut room, 0);
         name_file(rt, i);
         line.put_named(b"byte ", offset);
         line.put_text(b": ");

@@ -5,7 +5,7 @@ use crate::stop::Stop;
 use std::fs::File;
 use std::io::Read;
 use std::{fs, io};
-use text_line::Page;
+use text_line::{LINE, Page};
 
 // Room for the name of a file, of at most 4095 bytes, and for one more, which shows that it is longer.
 pub const PATH: usize = 4096;
@@ -16,7 +16,7 @@ pub fn complain(rt: &HostRuntime, text: &[u8]) {
 }
 
 // Writes a line and its end to standard error.
-pub fn complain_line(rt: &HostRuntime, line: &Page) {
+pub fn complain_line(rt: &HostRuntime, line: &Page<'_>) {
     complain(rt, line.text());
     complain(rt, b"\n");
 }
@@ -30,7 +30,8 @@ pub fn name_file(rt: &HostRuntime, i: usize) {
 
 // An argument that can be no file's name.
 fn no_name(rt: &HostRuntime, i: usize) -> Stop {
-    let mut line = Page::new();
+    let mut room = [0u8; LINE];
+    let mut line = Page::over(&mut room, 0);
     line.put_named(b"argument ", i as u64);
     line.put_text(b": expected the name of a file, of 1 to 4095 bytes");
     complain_line(rt, &line);
@@ -46,7 +47,8 @@ fn no_text(rt: &HostRuntime, i: usize) -> Stop {
 
 // The file of argument i can't be opened, for this reason.
 fn refused(rt: &HostRuntime, i: usize, e: &io::Error) -> Stop {
-    let mut line = Page::new();
+    let mut room = [0u8; LINE];
+    let mut line = Page::over(&mut room, 0);
     name_file(rt, i);
     put_reason(&mut line, e);
     complain_line(rt, &line);

@@ -3,13 +3,13 @@ ghost use Rattle.std.specs.Prelude.{◌≤◌, length};
 
 use std::fmt::Write;
 use std::{fmt, io};
-use text_line::Page;
+use text_line::{LINE, Page};
 
 // A text as it is formatted.
 #[derive(Drop)]
-struct Words(Page);
+struct Words<'a>(Page<'a>);
 
-impl fmt::Write for Words {
+impl fmt::Write for Words<'_> {
     fn write_str(&mut self, s: &str) -> fmt::Result {
         self.0.put_text(s.as_bytes());
         Ok(())
@@ -27,8 +27,9 @@ fn before_bracket(text: &[u8]) -> &[u8]
 }
 
 // Puts the system's words for an error, without its number, which stands in brackets after them.
-pub fn put_reason(line: &mut Page, e: &io::Error) {
-    let mut words = Words(Page::new());
+pub fn put_reason(line: &mut Page<'_>, e: &io::Error) {
+    let mut room = [0u8; LINE];
+    let mut words = Words(Page::over(&mut room, 0));
     let _ = write!(words, "{e}");
     line.put_text(before_bracket(words.0.text()));
 }

@@ -11,7 +11,7 @@ use times::Nanos;
 const ROOM: usize = 8192;
 
 // Lines for standard output, and rows for a file, or for nowhere.
-#[derive(Drop)]
+#[derive(Clone, Copy)]
 pub struct Outputs<'a> {
     pub printed: Output<'a>,
     pub rows: Output<'a>,
@@ -22,8 +22,10 @@ impl Outputs<'_> {
     pub fn begin_rows(&mut self)
         ensures { self.new.rows.writer.to ≡ self.old.rows.writer.to }
     {
-        csv::put_header(&mut self.rows.page);
-        self.rows.page.put_byte(b'\n');
+        self.rows.put(|page| {
+            csv::put_header(page);
+            page.put_byte(b'\n');
+        });
     }
 
     // The line of a slot.
@@ -32,9 +34,11 @@ impl Outputs<'_> {
         ensures { self.new.rows.writer.to ≡ self.old.rows.writer.to }
     {
         self.printed.make_room(ROOM);
-        self.printed.page.put_text(name);
-        self.printed.page.put_text(b": ");
-        rows::put_row(&mut self.printed.page, slot, bench, seen);
+        self.printed.put(|page| {
+            page.put_text(name);
+            page.put_text(b": ");
+            rows::put_row(page, slot, bench, seen);
+        });
         self.printed.end_line();
     }
 
@@ -44,8 +48,10 @@ impl Outputs<'_> {
         ensures { self.new.rows.writer.to ≡ self.old.rows.writer.to }
     {
         self.rows.make_room(ROOM);
-        csv::put_row(&mut self.rows.page, name, slot, bench, seen);
-        self.rows.page.put_byte(b'\n');
+        self.rows.put(|page| {
+            csv::put_row(page, name, slot, bench, seen);
+            page.put_byte(b'\n');
+        });
         self.rows.make_room(ROOM);
     }
 

@@ -5,11 +5,12 @@ use cli_io::text_file::{TEXT, read_text};
 use describe_lateness::refusals::put_file_refusal;
 use readiness::Moments;
 use seen_grammar::SeenRefusal;
-use text_line::Page;
+use text_line::{LINE, Page};
 
 // Says why the file that argument i names is refused.
 fn refuse(rt: &HostRuntime, i: usize, count: usize, why: SeenRefusal) -> Stop {
-    let mut line = Page::new();
+    let mut room = [0u8; LINE];
+    let mut line = Page::over(&mut room, 0);
     name_file(rt, i);
     put_file_refusal(&mut line, count as u64, why);
     complain_line(rt, &line);

@@ -22,7 +22,7 @@ fn is_refused(r: Report) -> bool
 }
 
 // How many were early, on time and late; and, if there is a difference, the least, the greatest and the sum.
-fn put_totals(page: &mut Page, r: Report) {
+fn put_totals(page: &mut Page<'_>, r: Report) {
     if is_refused(r) {
         put_refusal(&mut *page, r.number);
         return;
@@ -36,16 +36,20 @@ fn put_totals(page: &mut Page, r: Report) {
 
 // The line of all differences.
 fn print_total(out: &mut Output<'_>, r: Report) {
-    out.page.put_text(b"all differences: ");
-    put_totals(&mut out.page, r);
+    out.put(|page| {
+        page.put_text(b"all differences: ");
+        put_totals(page, r);
+    });
     out.end_line();
 }
 
 // The line of a slot's differences.
 fn print_slot_total(out: &mut Output<'_>, slot: usize, r: Report) {
-    out.page.put_named(b"slot ", slot as u64);
-    out.page.put_text(b": ");
-    put_totals(&mut out.page, r);
+    out.put(|page| {
+        page.put_named(b"slot ", slot as u64);
+        page.put_text(b": ");
+        put_totals(page, r);
+    });
     out.end_line();
 }
 
@@ -86,7 +90,7 @@ pub fn print_table(out: &mut Output<'_>, slots: usize, bench: Moments, seen: Mom
     for slot in 0..slots.min(32) {
         let made = bench_time(slots, bench, slot);
         let first = bench_time(slots, seen, slot);
-        put_row(&mut out.page, slot as u64, made, first);
+        out.put(|page| put_row(page, slot as u64, made, first));
         out.end_line();
     }
     let r = total_of_capture(slots, bench, seen);

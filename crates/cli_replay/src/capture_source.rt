@@ -86,16 +86,16 @@ impl CaptureSource {
         let replay = before.replay;
         let stamp = stamp_in(self.entry.stamp);
         let clock = after.port.dev.clock;
-        let page = &mut printed.page;
         if let Some(earlier) = replay.before()
             && owes_advance(before, stamp)
         {
             let k = usize::from(replay.answered);
             let offset = stamp_offset(before);
-            put_advanced(page, offset, earlier, stamp, k, clock, answer);
+            printed.put(|page| put_advanced(page, offset, earlier, stamp, k, clock, answer));
         } else {
             let item = decode(self.entry.held.bytes);
-            put_replayed(page, kind_offset(before), stamp, clock, item, answer);
+            let offset = kind_offset(before);
+            printed.put(|page| put_replayed(page, offset, stamp, clock, item, answer));
         }
         printed.end_line();
     }

@@ -11,7 +11,7 @@ use describe_capture::finding::fault_byte;
 fn print_fault(out: &mut Output<'_>, s: ReplaySession) {
     let fault = fault_of(s);
     if fault.is_some() {
-        put_fault_line(&mut out.page, fault_byte(s.session.offset, fault), fault);
+        out.put(|page| put_fault_line(page, fault_byte(s.session.offset, fault), fault));
         out.end_line();
     }
 }
@@ -26,15 +26,17 @@ pub fn print_replay_ending(
     if !quiet {
         print_fault(out, s);
     }
-    put_replay_end(
-        &mut out.page,
-        s.session.number,
-        s.session.offset,
-        records_run(s),
-        advances_run(s),
-        carried_of(s),
-        s.replay.stamp_len,
-    );
+    out.put(|page| {
+        put_replay_end(
+            page,
+            s.session.number,
+            s.session.offset,
+            records_run(s),
+            advances_run(s),
+            carried_of(s),
+            s.replay.stamp_len,
+        );
+    });
     out.end_line();
     print_state(out, memory, &s.session);
 }

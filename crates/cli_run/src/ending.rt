@@ -11,21 +11,23 @@ use readiness::Dev;
 
 // Clock and link, and port bits.
 fn print_port(out: &mut Output<'_>, dev: Dev) {
-    put_link(&mut out.page, dev);
+    out.put(|page| put_link(page, dev));
     out.end_line();
-    put_port_bits(&mut out.page, dev);
+    out.put(|page| put_port_bits(page, dev));
     out.end_line();
-    put_port_control(&mut out.page, dev.control);
+    out.put(|page| put_port_control(page, dev.control));
     out.end_line();
 }
 
 // The depth of the queue, and its messages, oldest first.
 fn print_queue(out: &mut Output<'_>, queue: Queue, cells: &[u32]) {
-    put_queue(&mut out.page, queue.depth, cells.len());
+    out.put(|page| put_queue(page, queue.depth, cells.len()));
     out.end_line();
     for i in 0..queue.depth {
-        out.page.put_text(b"  ");
-        put_queued(&mut out.page, cells, queue.start, i);
+        out.put(|page| {
+            page.put_text(b"  ");
+            put_queued(page, cells, queue.start, i);
+        });
         out.end_line();
     }
 }
@@ -37,20 +39,14 @@ pub fn print_state(out: &mut Output<'_>, memory: &Memory<'_>, s: &Session) {
     print_queue(out, dev.queue, &*memory.cells);
     let slots = memory.card.setup.slots;
     for (slot, status) in s.statuses.iter().take(slots).enumerate() {
-        put_slot(&mut out.page, slot, status.phase);
+        out.put(|page| put_slot(page, slot, status.phase));
         out.end_line();
     }
 }
 
 // Number, bytes consumed and records; and the state.
 pub fn print_ending(out: &mut Output<'_>, memory: &Memory<'_>, s: &Session) {
-    put_end(
-        &mut out.page,
-        s.number,
-        s.offset,
-        s.records,
-        s.port.carried_len,
-    );
+    out.put(|page| put_end(page, s.number, s.offset, s.records, s.port.carried_len));
     out.end_line();
     print_state(out, memory, s);
 }

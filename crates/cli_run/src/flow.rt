@@ -1,5 +1,5 @@
 // What flows while a file is fed: the pieces that are read, and the lines and answers that wait to be written.
-ghost use Rattle.std.specs.Prelude.{◌≡◌, [], None};
+ghost use Rattle.std.specs.Prelude.{◌≡◌, None};
 
 use cli_io::answers::Answers;
 use cli_io::files::complain;
@@ -19,7 +19,7 @@ pub struct Way<'a> {
 }
 
 // What was read and not yet fed, and how many bytes of what was taken of it are left; the lines and answers that wait to be written.
-#[derive(Drop)]
+#[derive(Clone, Copy)]
 pub struct Flow<'a> {
     pub input: Input<'a>,
     pub left: usize,
@@ -33,7 +33,8 @@ pub struct Flow<'a> {
 const STRIDE: u64 = 16777216;
 
 fn complain_progress(rt: &HostRuntime, megabytes: u64) {
-    let mut page = Page::new();
+    let mut room = [0u8; 32];
+    let mut page = Page::over(&mut room, 0);
     page.put_named(b"\r", megabytes);
     page.put_text(b" MB");
     complain(rt, page.text());
@@ -47,7 +48,7 @@ impl<'a> Flow<'a> {
         ensures to_value { result.input.to ≡ 0 }
         ensures reading_value { result.input.reading ≡ Reading.Goes }
         ensures nothing_left { result.left ≡ 0 }
-        ensures nothing_printed { result.printed.page ≡ [] }
+        ensures nothing_printed { result.printed.count ≡ 0 }
         ensures printed_fresh { result.printed.writer.failed ≡ None }
         ensures nothing_kept { result.kept.count ≡ 0 }
         ensures kept_fresh { result.kept.writer.failed ≡ None }

@@ -32,12 +32,11 @@ impl TraceSource {
     fn print_call(&self, after: Session, answer: &[u8], printed: &mut Output<'_>) {
         let offset = self.session.record_offset();
         let bytes = self.held.bytes;
-        let page = &mut printed.page;
         if after.number == 31 {
-            put_unknown(page, offset, bytes[0]);
+            printed.put(|page| put_unknown(page, offset, bytes[0]));
         } else {
             let clock = after.port.dev.clock;
-            put_run(page, offset, clock, decode(bytes), answer);
+            printed.put(|page| put_run(page, offset, clock, decode(bytes), answer));
         }
         printed.end_line();
     }
@@ -73,13 +72,8 @@ impl Source for TraceSource {
         let port = self.session.port;
         if port.carried_len > 0 {
             let kind = port.carried[0];
-            put_incomplete(
-                &mut printed.page,
-                self.session.record_offset(),
-                kind,
-                port.carried_len,
-                size_of(kind),
-            );
+            let offset = self.session.record_offset();
+            printed.put(|page| put_incomplete(page, offset, kind, port.carried_len, size_of(kind)));
             printed.end_line();
         }
     }

@@ -7,7 +7,7 @@ use cli_io::sink::Sink;
 use cli_io::stop::Stop;
 use sheet::{number_in, unit_in};
 use sheet_text::{put_code_lines, put_too_long_line};
-use text_line::Page;
+use text_line::{LINE, Page};
 use times::{ClaimedTime, claimed};
 
 // The time that two words claim.
@@ -23,7 +23,8 @@ fn time_of_words(time: &[u8], unit: &[u8]) -> Option<ClaimedTime> {
 
 // Says that a time is too long for a code.
 fn refuse_code(rt: &HostRuntime, c: ClaimedTime) -> Stop {
-    let mut page = Page::new();
+    let mut room = [0u8; LINE];
+    let mut page = Page::over(&mut room, 0);
     put_too_long_line(&mut page, c);
     complain(rt, page.text());
     Stop::Refused
@@ -31,7 +32,8 @@ fn refuse_code(rt: &HostRuntime, c: ClaimedTime) -> Stop {
 
 // Prints the lines of a time; there are none for a time without a code.
 fn show_code(rt: &HostRuntime, c: ClaimedTime) -> Result<(), Stop> {
-    let mut page = Page::new();
+    let mut room = [0u8; LINE];
+    let mut page = Page::over(&mut room, 0);
     put_code_lines(&mut page, c);
     if page.len() == 0 {
         return Err(refuse_code(rt, c));

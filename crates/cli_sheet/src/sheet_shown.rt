@@ -9,7 +9,7 @@ use cli_io::text_file::{TEXT, read_text};
 use cli_run::memory::Card;
 use readiness::Setup;
 use sheet_text::{put_card, put_doubts, put_refused};
-use text_line::Page;
+use text_line::{PAGE, Page};
 
 // The arguments that name the card and the sheet, and whether only what is wrong is printed.
 #[derive(Clone, Copy)]
@@ -23,12 +23,16 @@ pub struct SheetCall {
 // So many bytes of a name leave room for a line about each of 128 times.
 const NAME: usize = 800;
 
+// Room for why a sheet is refused, after a name of 4096 bytes.
+const REFUSAL: usize = 8192;
+
 // ---- What is printed
 
 // Says why the sheet that argument i names is refused.
 fn refuse_sheet(rt: &HostRuntime, i: usize, setup: Setup, text: &[u8]) -> Stop {
     let mut name = [0u8; PATH];
-    let mut page = Page::new();
+    let mut room = [0u8; REFUSAL];
+    let mut page = Page::over(&mut room, 0);
     put_refused(&mut page, arg(rt, i, &mut name), setup, text);
     complain(rt, page.text());
     Stop::Refused
@@ -37,9 +41,10 @@ fn refuse_sheet(rt: &HostRuntime, i: usize, setup: Setup, text: &[u8]) -> Stop {
 // Says where the unit of the sheet that argument i names may be wrong.
 // Kept: two set-ups and a text that come together in this call alone.
 fn show_doubts(rt: &HostRuntime, i: usize, before: Setup, after: Setup, text: &[u8]) {
-    let mut room = [0u8; PATH];
-    let mut page = Page::new();
-    let name = arg(rt, i, &mut room);
+    let mut given = [0u8; PATH];
+    let mut room = [0u8; PAGE];
+    let mut page = Page::over(&mut room, 0);
+    let name = arg(rt, i, &mut given);
     let n = name.len().min(NAME);
     put_doubts(&mut page, &name[..n], before, after, text);
     complain(rt, page.text());
@@ -47,7 +52,8 @@ fn show_doubts(rt: &HostRuntime, i: usize, before: Setup, after: Setup, text: &[
 
 // Prints the card with the set-up after the sheet.
 fn print_card(rt: &HostRuntime, card: &Card, after: Setup, text: &[u8]) -> Result<(), Failure> {
-    let mut page = Page::new();
+    let mut room = [0u8; PAGE];
+    let mut page = Page::over(&mut room, 0);
     put_card(&mut page, after, card.queue, &card.words, text);
     after_printing(rt, Sink::Output(rt).write(page.text()))
 }

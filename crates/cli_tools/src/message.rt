@@ -31,14 +31,14 @@ fn whole_count(packed: Packed, characters: usize) -> Option<usize> {
 
 // The bytes of the hex text of the arguments from 3 on, at most 32, put into the room; nothing where it is no such text.
 fn bytes_given<'a>(rt: &HostRuntime, room: &'a mut [u8]) -> Option<&'a [u8]> {
-    let mut page = Page::new();
+    let mut line = [0u8; LINE];
+    let mut page = Page::over(&mut line, 0);
     for i in 3..arg_count(rt).min(35) {
         let mut given = [0u8; 256];
         page.put_text(arg(rt, i, &mut given));
         page.put_byte(b' ');
     }
-    let all = page.text();
-    let text = &all[..all.len().min(LINE)];
+    let text = page.text();
     let packed = text_hex::pack(text_hex::start(), text, &mut *room);
     let n = whole_count(packed, text.len())?;
     room.get(..n)
@@ -47,7 +47,7 @@ fn bytes_given<'a>(rt: &HostRuntime, room: &'a mut [u8]) -> Option<&'a [u8]> {
 // ---- Reading
 
 // What isn't as a DRS or an FRS has it: byte i, and what was expected.
-fn put_byte_fault(line: &mut Page, bytes: &[u8], i: usize, expected: &[u8]) {
+fn put_byte_fault(line: &mut Page<'_>, bytes: &[u8], i: usize, expected: &[u8]) {
     let b = bytes.get(i).copied().unwrap_or(0);
     line.put_named(b"byte ", i as u64);
     line.put_text(b" is ");
@@ -57,7 +57,7 @@ fn put_byte_fault(line: &mut Page, bytes: &[u8], i: usize, expected: &[u8]) {
 }
 
 // The first thing that keeps bytes from being a readiness message.
-fn put_message_fault(line: &mut Page, bytes: &[u8]) {
+fn put_message_fault(line: &mut Page<'_>, bytes: &[u8]) {
     let Ok(all) = <[u8; 16]>::try_from(bytes) else {
         line.put_decimal(bytes.len() as u64);
         line.put_text(b" bytes, expected 16");
@@ -76,7 +76,8 @@ fn put_message_fault(line: &mut Page, bytes: &[u8]) {
 }
 
 fn complain_message(rt: &HostRuntime, bytes: &[u8]) -> Stop {
-    let mut line = Page::new();
+    let mut room = [0u8; LINE];
+    let mut line = Page::over(&mut room, 0);
     line.put_text(b"no readiness message (19): ");
     put_message_fault(&mut line, bytes);
     complain_line(rt, &line);
@@ -90,7 +91,7 @@ fn tell_message(rt: &HostRuntime, bytes: &[u8]) -> Result<(), Stop> {
         return Err(complain_message(rt, bytes));
     }
     let mut out = Output::new(Sink::Output(rt));
-    put_message(&mut out.page, message);
+    out.put(|page| put_message(page, message));
     print_line(rt, &mut out)
 }
 
@@ -139,7 +140,7 @@ fn write_message(rt: &HostRuntime, kind: u8, reason: Option<u8>) -> Result<(), S
         return Err(bad_usage(rt, b"message wants a reason of one hex digit"));
     }
     let mut out = Output::new(Sink::Output(rt));
-    out.page.put_bytes(&bytes);
+    out.put(|page| page.put_bytes(&bytes));
     print_line(rt, &mut out)
 }
 

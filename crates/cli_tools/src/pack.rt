@@ -8,7 +8,7 @@ use cli_io::stop::Stop;
 use std::fs::File;
 use std::ops::ControlFlow;
 use text_hex::{Packing, Within};
-use text_line::Page;
+use text_line::{LINE, Page};
 
 // ---- The file
 
@@ -49,7 +49,8 @@ impl Work {
 
 // Where the text of the file that argument i names goes wrong, and what was expected there.
 fn complain_text(rt: &HostRuntime, i: usize, p: Packing) {
-    let mut line = Page::new();
+    let mut room = [0u8; LINE];
+    let mut line = Page::over(&mut room, 0);
     name_file(rt, i);
     line.put_named(b"line ", p.line);
     line.put_named(b", column ", p.column);

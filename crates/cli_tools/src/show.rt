@@ -22,11 +22,11 @@ impl Trace {
     fn print_held(&self, out: &mut Output<'_>) {
         let Held { bytes, count, size } = self.held;
         if size == 0 {
-            put_unknown(&mut out.page, self.offset, bytes[0]);
+            out.put(|page| put_unknown(page, self.offset, bytes[0]));
         } else if count < size {
-            put_incomplete(&mut out.page, self.offset, bytes[0], count, size);
+            out.put(|page| put_incomplete(page, self.offset, bytes[0], count, size));
         } else {
-            put_shown(&mut out.page, self.offset, decode::decoding::decode(bytes));
+            out.put(|page| put_shown(page, self.offset, decode::decoding::decode(bytes)));
         }
         out.end_line();
     }
@@ -55,7 +55,7 @@ impl Shown for Trace {
         }
     }
 
-    fn put_totals(&self, page: &mut Page) {
+    fn put_totals(&self, page: &mut Page<'_>) {
         put_totals(&mut *page, self.records, self.offset);
     }
 

@@ -44,13 +44,9 @@ impl Capture {
     // An entry with its whole record.
     fn show_entry(&mut self, out: &mut Output<'_>) {
         let stamp = self.stamp();
-        put_entry(
-            &mut out.page,
-            self.offset.wrapping_add(4),
-            self.earlier,
-            stamp,
-            decode::decoding::decode(self.entry.held.bytes),
-        );
+        let record = decode::decoding::decode(self.entry.held.bytes);
+        let at = self.offset.wrapping_add(4);
+        out.put(|page| put_entry(page, at, self.earlier, stamp, record));
         out.end_line();
         self.nanos = self.nanos.wrapping_add(self.nanos_since());
         self.offset = self.next_byte();
@@ -82,7 +78,7 @@ impl Capture {
 
     // Its line, where the next byte is at `next`.
     fn show_fault(&mut self, fault: Option<CaptureFault>, next: u64, out: &mut Output<'_>) {
-        put_fault_line(&mut out.page, fault_byte(next, fault), fault);
+        out.put(|page| put_fault_line(page, fault_byte(next, fault), fault));
         out.end_line();
         self.stopped_at = next;
     }
@@ -111,7 +107,7 @@ impl Shown for Capture {
         }
     }
 
-    fn put_totals(&self, page: &mut Page) {
+    fn put_totals(&self, page: &mut Page<'_>) {
         put_capture_totals(&mut *page, self.entries, self.offset, self.nanos);
     }
 

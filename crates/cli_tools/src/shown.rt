@@ -17,7 +17,7 @@ pub trait Shown {
     fn show_rest(&mut self, out: &mut Output<'_>);
 
     // The last line.
-    fn put_totals(&self, page: &mut Page);
+    fn put_totals(&self, page: &mut Page<'_>);
 
     // Where the next byte is that was not yet taken.
     fn next_byte(&self) -> u64;
@@ -68,7 +68,7 @@ pub fn show_file<S: Shown>(
     let mut input = Input::new(file);
     let mut out = Output::new(Sink::Output(rt));
     show_all(&mut *shown, &mut input, &mut out);
-    shown.put_totals(&mut out.page);
+    out.put(|page| shown.put_totals(page));
     out.end_line();
     let written = after_printing(rt, out.flush());
     if let Reading::Failed(failure) = input.reading() {

@@ -18,7 +18,7 @@ use ticks::{Stamp, difference};
 use times::Nanos;
 
 // A byte offset, and the stamp of the entry there.
-pub fn put_place(page: &mut Page, offset: u64, stamp: Stamp)
+pub fn put_place(page: &mut Page<'_>, offset: u64, stamp: Stamp)
     ensures { page.new ≡ put (place_text offset stamp) page.old }
 {
     page.put_column(offset);
@@ -31,7 +31,7 @@ pub fn put_place(page: &mut Page, offset: u64, stamp: Stamp)
 
 // An entry's record: the byte offset of its kind, its stamp, the clock after it, the record and its answer.
 pub fn put_replayed(
-    page: &mut Page,
+    page: &mut Page<'_>,
     offset: u64,
     stamp: Stamp,
     clock: Nanos,
@@ -49,7 +49,7 @@ pub fn put_replayed(
 
 // An advance of a stamp, at an index among them: the byte offset of the stamp, the stamp, the clock after it, the advance and its answer.
 pub fn put_advanced(
-    page: &mut Page,
+    page: &mut Page<'_>,
     offset: u64,
     earlier: Stamp,
     stamp: Stamp,
@@ -68,7 +68,7 @@ pub fn put_advanced(
 }
 
 // What is in hand at the end: an incomplete record, an incomplete stamp, or a stamp without its record.
-fn put_in_hand(page: &mut Page, carried: usize, stamped: usize)
+fn put_in_hand(page: &mut Page<'_>, carried: usize, stamped: usize)
     ensures { page.new ≡ put (in_hand_text carried stamped) page.old }
 {
     if carried > 0 {
@@ -86,7 +86,7 @@ fn put_in_hand(page: &mut Page, carried: usize, stamped: usize)
 // The end of a replay: the last number, bytes consumed, the entries' records that ran, advances, and how many bytes of a record and of a
 // stamp are in hand.
 pub fn put_replay_end(
-    page: &mut Page,
+    page: &mut Page<'_>,
     number: u8,
     consumed: u64,
     records: u64,
@@ -106,7 +106,7 @@ pub fn put_replay_end(
 // ---- Shown
 
 // The difference to the stamp before; the first stamp has none.
-fn put_since(page: &mut Page, earlier: Option<Stamp>, stamp: Stamp)
+fn put_since(page: &mut Page<'_>, earlier: Option<Stamp>, stamp: Stamp)
     ensures { page.new ≡ put (since_text earlier stamp) page.old }
 {
     match earlier {
@@ -119,7 +119,7 @@ fn put_since(page: &mut Page, earlier: Option<Stamp>, stamp: Stamp)
 }
 
 // An entry: the byte offset of its record's kind, its stamp, the difference to the stamp before, and the record.
-pub fn put_entry(page: &mut Page, offset: u64, earlier: Option<Stamp>, stamp: Stamp, item: Record)
+pub fn put_entry(page: &mut Page<'_>, offset: u64, earlier: Option<Stamp>, stamp: Stamp, item: Record)
     ensures { page.new ≡ put (entry_text offset earlier stamp item) page.old }
 {
     put_place(page, offset, stamp);
@@ -129,7 +129,7 @@ pub fn put_entry(page: &mut Page, offset: u64, earlier: Option<Stamp>, stamp: St
 }
 
 // The end of a capture that was only shown.
-pub fn put_capture_totals(page: &mut Page, entries: u64, bytes: u64, nanos: u64)
+pub fn put_capture_totals(page: &mut Page<'_>, entries: u64, bytes: u64, nanos: u64)
     ensures { page.new ≡ put (capture_totals_text entries bytes nanos) page.old }
 {
     page.put_named(b"entries ", entries);

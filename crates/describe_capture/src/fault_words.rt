@@ -15,7 +15,7 @@ use ticks::{Stamp, difference, ticks_number};
 // ---- What is wrong, and what was expected
 
 // How far a stamp goes back from the earlier one, and forward.
-fn put_apart(page: &mut Page, earlier: Stamp, stamp: Stamp)
+fn put_apart(page: &mut Page<'_>, earlier: Stamp, stamp: Stamp)
     ensures { page.new ≡ put (apart_text earlier stamp) page.old }
 {
     let forward = u64::from(ticks_number(difference(earlier, stamp)));
@@ -24,7 +24,7 @@ fn put_apart(page: &mut Page, earlier: Stamp, stamp: Stamp)
     page.put_text(b" ticks forward");
 }
 
-fn put_went_back(page: &mut Page, earlier: Stamp, stamp: Stamp)
+fn put_went_back(page: &mut Page<'_>, earlier: Stamp, stamp: Stamp)
     ensures { page.new ≡ put (went_back_text earlier stamp) page.old }
 {
     page.put_text(b"32: the recorder went back: ");
@@ -36,7 +36,7 @@ fn put_went_back(page: &mut Page, earlier: Stamp, stamp: Stamp)
     page.put_text(b": expected less than 2147483648 ticks (8589934592 ns) forward");
 }
 
-fn put_advance_first(page: &mut Page, stamp: Stamp)
+fn put_advance_first(page: &mut Page<'_>, stamp: Stamp)
     ensures { page.new ≡ put (advance_first_text stamp) page.old }
 {
     page.put_text(b"33: kind 01h (advance) after ");
@@ -44,7 +44,7 @@ fn put_advance_first(page: &mut Page, stamp: Stamp)
     page.put_text(b", the first: an advance comes from the stamps alone; expected 02h to 0Dh");
 }
 
-fn put_advance_kind(page: &mut Page, earlier: Stamp, stamp: Stamp)
+fn put_advance_kind(page: &mut Page<'_>, earlier: Stamp, stamp: Stamp)
     ensures { page.new ≡ put (advance_kind_text earlier stamp) page.old }
 {
     let by = difference(earlier, stamp);
@@ -57,7 +57,7 @@ fn put_advance_kind(page: &mut Page, earlier: Stamp, stamp: Stamp)
     page.put_text(b": an advance comes from the stamps alone; expected 02h to 0Dh");
 }
 
-fn put_no_kind(page: &mut Page, stamp: Stamp, kind: u8)
+fn put_no_kind(page: &mut Page<'_>, stamp: Stamp, kind: u8)
     ensures { page.new ≡ put (no_kind_text stamp kind) page.old }
 {
     page.put_text(b"31: ");
@@ -67,7 +67,7 @@ fn put_no_kind(page: &mut Page, stamp: Stamp, kind: u8)
     page.put_text(b" is no kind: expected 02h to 0Dh");
 }
 
-fn put_stamp_cut(page: &mut Page, count: usize)
+fn put_stamp_cut(page: &mut Page<'_>, count: usize)
     ensures { page.new ≡ put (stamp_cut_text count) page.old }
 {
     page.put_named(
@@ -76,14 +76,14 @@ fn put_stamp_cut(page: &mut Page, count: usize)
     );
 }
 
-fn put_no_record(page: &mut Page, stamp: Stamp)
+fn put_no_record(page: &mut Page<'_>, stamp: Stamp)
     ensures { page.new ≡ put (no_record_text stamp) page.old }
 {
     put_stamp(page, stamp);
     page.put_text(b" is without its record: expected a kind, 02h to 0Dh");
 }
 
-fn put_record_cut(page: &mut Page, stamp: Stamp, kind: u8, count: usize, size: usize)
+fn put_record_cut(page: &mut Page<'_>, stamp: Stamp, kind: u8, count: usize, size: usize)
     ensures { page.new ≡ put (record_cut_text stamp kind count size) page.old }
 {
     page.put_text(b"the record of kind ");
@@ -94,7 +94,7 @@ fn put_record_cut(page: &mut Page, stamp: Stamp, kind: u8, count: usize, size: u
     page.put_named(b" bytes, and there are ", count as u64);
 }
 
-fn put_fault(page: &mut Page, fault: Option<CaptureFault>)
+fn put_fault(page: &mut Page<'_>, fault: Option<CaptureFault>)
     ensures { page.new ≡ put (fault_text fault) page.old }
 {
     match fault {
@@ -112,7 +112,7 @@ fn put_fault(page: &mut Page, fault: Option<CaptureFault>)
 }
 
 // At its byte of the file.
-pub fn put_fault_message(page: &mut Page, offset: u64, fault: Option<CaptureFault>)
+pub fn put_fault_message(page: &mut Page<'_>, offset: u64, fault: Option<CaptureFault>)
     ensures { page.new ≡ put (fault_message offset fault) page.old }
 {
     page.put_named(b"byte ", offset);
@@ -122,7 +122,7 @@ pub fn put_fault_message(page: &mut Page, offset: u64, fault: Option<CaptureFaul
 
 // ---- As a line among those of the entries
 
-fn put_went_back_line(page: &mut Page, offset: u64, earlier: Stamp, stamp: Stamp)
+fn put_went_back_line(page: &mut Page<'_>, offset: u64, earlier: Stamp, stamp: Stamp)
     ensures { page.new ≡ put (went_back_line offset earlier stamp) page.old }
 {
     put_place(page, offset, stamp);
@@ -131,14 +131,14 @@ fn put_went_back_line(page: &mut Page, offset: u64, earlier: Stamp, stamp: Stamp
     page.put_text(b": the capture ends here");
 }
 
-fn put_advance_kind_line(page: &mut Page, offset: u64, stamp: Stamp)
+fn put_advance_kind_line(page: &mut Page<'_>, offset: u64, stamp: Stamp)
     ensures { page.new ≡ put (advance_kind_line offset stamp) page.old }
 {
     put_place(page, offset, stamp);
     page.put_text(b"kind 01h (advance): the capture ends here");
 }
 
-fn put_no_kind_line(page: &mut Page, offset: u64, stamp: Stamp, kind: u8)
+fn put_no_kind_line(page: &mut Page<'_>, offset: u64, stamp: Stamp, kind: u8)
     ensures { page.new ≡ put (no_kind_line offset stamp kind) page.old }
 {
     put_place(page, offset, stamp);
@@ -147,7 +147,7 @@ fn put_no_kind_line(page: &mut Page, offset: u64, stamp: Stamp, kind: u8)
     page.put_text(b"h (kinds are 02h to 0Dh): the capture is broken here");
 }
 
-fn put_stamp_cut_line(page: &mut Page, offset: u64, count: usize)
+fn put_stamp_cut_line(page: &mut Page<'_>, offset: u64, count: usize)
     ensures { page.new ≡ put (stamp_cut_line offset count) page.old }
 {
     page.put_column(offset);
@@ -155,7 +155,7 @@ fn put_stamp_cut_line(page: &mut Page, offset: u64, count: usize)
     page.put_text(b" of its 4 bytes");
 }
 
-fn put_no_record_line(page: &mut Page, offset: u64, stamp: Stamp)
+fn put_no_record_line(page: &mut Page<'_>, offset: u64, stamp: Stamp)
     ensures { page.new ≡ put (no_record_line offset stamp) page.old }
 {
     put_place(page, offset, stamp);
@@ -163,7 +163,7 @@ fn put_no_record_line(page: &mut Page, offset: u64, stamp: Stamp)
 }
 
 fn put_record_cut_line(
-    page: &mut Page,
+    page: &mut Page<'_>,
     offset: u64,
     stamp: Stamp,
     kind: u8,
@@ -180,7 +180,7 @@ fn put_record_cut_line(
     page.put_text(b" bytes");
 }
 
-pub fn put_fault_line(page: &mut Page, offset: u64, fault: Option<CaptureFault>)
+pub fn put_fault_line(page: &mut Page<'_>, offset: u64, fault: Option<CaptureFault>)
     ensures { page.new ≡ put (fault_line offset fault) page.old }
 {
     match fault {

@@ -14,7 +14,7 @@ use times::{Nanos, nanos_number};
 // ---- Stamps and differences
 
 // A number in a column of ten.
-fn put_ten(page: &mut Page, n: u64)
+fn put_ten(page: &mut Page<'_>, n: u64)
     ensures { page.new ≡ put (ten_of n) page.old }
 {
     page.put_if(n < 1000000000, b" ");
@@ -22,21 +22,21 @@ fn put_ten(page: &mut Page, n: u64)
     page.put_column(n);
 }
 
-pub fn put_stamp_column(page: &mut Page, stamp: Stamp)
+pub fn put_stamp_column(page: &mut Page<'_>, stamp: Stamp)
     ensures { page.new ≡ put (stamp_column stamp) page.old }
 {
     put_ten(page, u64::from(stamp_number(stamp)));
     page.put_text(b" ticks");
 }
 
-pub fn put_stamp(page: &mut Page, stamp: Stamp)
+pub fn put_stamp(page: &mut Page<'_>, stamp: Stamp)
     ensures { page.new ≡ put (stamp_text stamp) page.old }
 {
     page.put_named(b"stamp ", u64::from(stamp_number(stamp)));
     page.put_text(b" ticks");
 }
 
-pub fn put_clock_column(page: &mut Page, clock: Nanos)
+pub fn put_clock_column(page: &mut Page<'_>, clock: Nanos)
     ensures { page.new ≡ put (clock_column clock) page.old }
 {
     put_ten(page, nanos_number(clock));
@@ -44,7 +44,7 @@ pub fn put_clock_column(page: &mut Page, clock: Nanos)
 }
 
 // A difference in ticks, and its time.
-pub fn put_difference(page: &mut Page, d: Ticks)
+pub fn put_difference(page: &mut Page<'_>, d: Ticks)
     ensures { page.new ≡ put (difference_text d) page.old }
 {
     put_ten(page, u64::from(ticks_number(d)));
@@ -54,7 +54,7 @@ pub fn put_difference(page: &mut Page, d: Ticks)
 }
 
 // The same within a sentence.
-pub fn put_span(page: &mut Page, d: Ticks)
+pub fn put_span(page: &mut Page<'_>, d: Ticks)
     ensures { page.new ≡ put (span_text d) page.old }
 {
     page.put_decimal(u64::from(ticks_number(d)));
@@ -109,7 +109,7 @@ pub fn advance_at(d: Ticks, k: usize) -> Nanos
 }
 
 // Which advance it is, where there are two.
-fn put_part(page: &mut Page, count: usize, k: usize)
+fn put_part(page: &mut Page<'_>, count: usize, k: usize)
     ensures { page.new ≡ put (part_text count k) page.old }
 {
     if count > 1 {
@@ -118,7 +118,7 @@ fn put_part(page: &mut Page, count: usize, k: usize)
 }
 
 // An advance of a difference: its time, and the ticks that it comes from.
-pub fn put_advance(page: &mut Page, d: Ticks, k: usize)
+pub fn put_advance(page: &mut Page<'_>, d: Ticks, k: usize)
     ensures { page.new ≡ put (advance_text d k) page.old }
 {
     page.put_named(b"advance ", nanos_number(advance_at(d, k)));

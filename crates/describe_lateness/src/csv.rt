@@ -12,14 +12,14 @@ use text_line::Page;
 use times::{Nanos, nanos_number};
 
 // The names of the columns.
-pub fn put_header(page: &mut Page)
+pub fn put_header(page: &mut Page<'_>)
     ensures { page.new ≡ put header_text page.old }
 {
     page.put_text(b"capture,slot,bench_ns,seen_ns,difference_ns,verdict");
 }
 
 // A time in nanoseconds, nothing where there is none.
-fn put_moment(page: &mut Page, m: Option<Nanos>)
+fn put_moment(page: &mut Page<'_>, m: Option<Nanos>)
     ensures { page.new ≡ put (moment_csv m) page.old }
 {
     match m {
@@ -29,7 +29,7 @@ fn put_moment(page: &mut Page, m: Option<Nanos>)
 }
 
 // A difference, nothing where there is none.
-fn put_value(page: &mut Page, d: Lateness)
+fn put_value(page: &mut Page<'_>, d: Lateness)
     ensures { page.new ≡ put (difference_csv d) page.old }
 {
     match d {
@@ -40,7 +40,7 @@ fn put_value(page: &mut Page, d: Lateness)
 }
 
 // Early, late or on time; 34 where the difference is refused.
-fn put_word(page: &mut Page, d: Lateness)
+fn put_word(page: &mut Page<'_>, d: Lateness)
     ensures { page.new ≡ put (verdict_csv d) page.old }
 {
     match d {
@@ -51,7 +51,7 @@ fn put_word(page: &mut Page, d: Lateness)
 }
 
 // The two times, with a comma after each.
-fn put_times(page: &mut Page, bench: Option<Nanos>, seen: Option<Nanos>)
+fn put_times(page: &mut Page<'_>, bench: Option<Nanos>, seen: Option<Nanos>)
     ensures { page.new ≡ put (times_csv bench seen) page.old }
 {
     put_moment(page, bench);
@@ -61,7 +61,7 @@ fn put_times(page: &mut Page, bench: Option<Nanos>, seen: Option<Nanos>)
 }
 
 // The difference and its word.
-fn put_end(page: &mut Page, d: Lateness)
+fn put_end(page: &mut Page<'_>, d: Lateness)
     ensures { page.new ≡ put (end_csv d) page.old }
 {
     put_value(page, d);
@@ -71,7 +71,7 @@ fn put_end(page: &mut Page, d: Lateness)
 
 // The row of a slot of a capture, whose name stands in it as it is.
 pub fn put_row(
-    page: &mut Page,
+    page: &mut Page<'_>,
     capture: &[u8],
     slot: u64,
     bench: Option<Nanos>,

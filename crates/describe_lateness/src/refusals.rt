@@ -9,7 +9,7 @@ use seen_grammar::SeenRefusal;
 use text_line::Page;
 
 // The reason.
-fn put_reason(page: &mut Page, why: SeenRefusal)
+fn put_reason(page: &mut Page<'_>, why: SeenRefusal)
     ensures { page.new ≡ put (reason_text why) page.old }
 {
     match why {
@@ -24,7 +24,7 @@ fn put_reason(page: &mut Page, why: SeenRefusal)
 }
 
 // The line that refuses a file, counted from 1, and the reason.
-pub fn put_file_refusal(page: &mut Page, count: u64, why: SeenRefusal)
+pub fn put_file_refusal(page: &mut Page<'_>, count: u64, why: SeenRefusal)
     ensures { page.new ≡ put (file_text count why) page.old }
 {
     page.put_named(b"line ", count);

@@ -12,7 +12,7 @@ use text_line::Page;
 use times::{Nanos, nanos_number};
 
 // Blanks before a group of three digits that isn't full.
-fn put_group_margin(page: &mut Page, n: u64)
+fn put_group_margin(page: &mut Page<'_>, n: u64)
     ensures { page.new ≡ put (group_margin n) page.old }
 {
     page.put_if(n < 10, b" ");
@@ -21,7 +21,7 @@ fn put_group_margin(page: &mut Page, n: u64)
 }
 
 // Blanks before a number, so that numbers up to ten digits stand below one another.
-fn put_margin(page: &mut Page, n: u64)
+fn put_margin(page: &mut Page<'_>, n: u64)
     ensures { page.new ≡ put (margin_text n) page.old }
 {
     put_group_margin(page, n);
@@ -30,7 +30,7 @@ fn put_margin(page: &mut Page, n: u64)
 }
 
 // A name, and a time in its column.
-fn put_column(page: &mut Page, name: &[u8], t: Nanos)
+fn put_column(page: &mut Page<'_>, name: &[u8], t: Nanos)
     ensures { page.new ≡ put (column_text name.now t) page.old }
 {
     let n = nanos_number(t);
@@ -39,7 +39,7 @@ fn put_column(page: &mut Page, name: &[u8], t: Nanos)
     put_nanos(page, n);
 }
 
-fn put_slot(page: &mut Page, slot: u64)
+fn put_slot(page: &mut Page<'_>, slot: u64)
     ensures { page.new ≡ put (slot_text slot) page.old }
 {
     page.put_text(b"slot ");
@@ -48,7 +48,7 @@ fn put_slot(page: &mut Page, slot: u64)
 }
 
 // When the replay last made the slot Ready.
-fn put_bench(page: &mut Page, bench: Option<Nanos>)
+fn put_bench(page: &mut Page<'_>, bench: Option<Nanos>)
     ensures { page.new ≡ put (bench_text bench) page.old }
 {
     match bench {
@@ -58,7 +58,7 @@ fn put_bench(page: &mut Page, bench: Option<Nanos>)
 }
 
 // When the lab first saw it answer.
-fn put_seen(page: &mut Page, seen: Option<Nanos>)
+fn put_seen(page: &mut Page<'_>, seen: Option<Nanos>)
     ensures { page.new ≡ put (seen_text seen) page.old }
 {
     match seen {
@@ -68,7 +68,7 @@ fn put_seen(page: &mut Page, seen: Option<Nanos>)
 }
 
 // Why there is no difference.
-fn put_missing(page: &mut Page, bench: Option<Nanos>)
+fn put_missing(page: &mut Page<'_>, bench: Option<Nanos>)
     ensures { page.new ≡ put (missing_text bench) page.old }
 {
     match bench {
@@ -78,7 +78,7 @@ fn put_missing(page: &mut Page, bench: Option<Nanos>)
 }
 
 // A difference that is within, and what it says.
-fn put_within(page: &mut Page, d: i64)
+fn put_within(page: &mut Page<'_>, d: i64)
     ensures { page.new ≡ put (within_text d) page.old }
 {
     page.put_text(b"  ");
@@ -88,7 +88,7 @@ fn put_within(page: &mut Page, d: i64)
 }
 
 // The difference, or why there is none.
-fn put_note(page: &mut Page, bench: Option<Nanos>, d: Lateness)
+fn put_note(page: &mut Page<'_>, bench: Option<Nanos>, d: Lateness)
     ensures { page.new ≡ put (note_text bench d) page.old }
 {
     match d {
@@ -99,7 +99,7 @@ fn put_note(page: &mut Page, bench: Option<Nanos>, d: Lateness)
 }
 
 // The whole line of a slot.
-pub fn put_row(page: &mut Page, slot: u64, bench: Option<Nanos>, seen: Option<Nanos>)
+pub fn put_row(page: &mut Page<'_>, slot: u64, bench: Option<Nanos>, seen: Option<Nanos>)
     ensures { page.new ≡ put (row_text slot bench seen) page.old }
 {
     put_slot(page, slot);

@@ -33,7 +33,7 @@ fn size_of(d: i64) -> u64
 }
 
 // '-' if it is early, '+' if it is late.
-fn put_sign(page: &mut Page, d: i64)
+fn put_sign(page: &mut Page<'_>, d: i64)
     ensures { page.new ≡ put (sign_text d) page.old }
 {
     page.put_if(is_early(d), b"-");
@@ -41,7 +41,7 @@ fn put_sign(page: &mut Page, d: i64)
 }
 
 // A difference in nanoseconds, thousands grouped.
-pub fn put_difference(page: &mut Page, d: i64)
+pub fn put_difference(page: &mut Page<'_>, d: i64)
     ensures { page.new ≡ put (difference_text d) page.old }
 {
     put_sign(page, d);
@@ -49,7 +49,7 @@ pub fn put_difference(page: &mut Page, d: i64)
 }
 
 // Early, late or on time.
-pub fn put_verdict(page: &mut Page, d: i64)
+pub fn put_verdict(page: &mut Page<'_>, d: i64)
     ensures { page.new ≡ put (verdict_text d) page.old }
 {
     if is_early(d) {
@@ -62,7 +62,7 @@ pub fn put_verdict(page: &mut Page, d: i64)
 }
 
 // A plain integer, as programs read it: '-' before a negative one, no grouping.
-pub fn put_plain(page: &mut Page, d: i64)
+pub fn put_plain(page: &mut Page<'_>, d: i64)
     ensures { page.new ≡ put (plain_text d) page.old }
 {
     page.put_if(is_early(d), b"-");

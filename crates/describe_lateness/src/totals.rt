@@ -10,7 +10,7 @@ use lateness::Report;
 use text_line::Page;
 
 // How many were early, on time and late.
-pub fn put_counts(page: &mut Page, r: Report)
+pub fn put_counts(page: &mut Page<'_>, r: Report)
     ensures { page.new ≡ put (counts_text r) page.old }
 {
     page.put_text(b"early ");
@@ -22,7 +22,7 @@ pub fn put_counts(page: &mut Page, r: Report)
 }
 
 // The least and the greatest difference, and the sum.
-pub fn put_range(page: &mut Page, least: i64, greatest: i64, sum: i64)
+pub fn put_range(page: &mut Page<'_>, least: i64, greatest: i64, sum: i64)
     ensures { page.new ≡ put (range_text least greatest sum) page.old }
 {
     page.put_text(b"least ");
@@ -34,7 +34,7 @@ pub fn put_range(page: &mut Page, least: i64, greatest: i64, sum: i64)
 }
 
 // Why there are no totals.
-pub fn put_refusal(page: &mut Page, number: u8)
+pub fn put_refusal(page: &mut Page<'_>, number: u8)
     ensures { page.new ≡ put (refusal_text number) page.old }
 {
     if number == 34 {

@@ -13,7 +13,7 @@ use text_line::Page;
 // ---- Parts
 
 // A number of four hex digits, as an ID has.
-pub fn put_id(page: &mut Page, id: u16)
+pub fn put_id(page: &mut Page<'_>, id: u16)
     ensures { page.new ≡ put (id_text id) page.old }
 {
     page.put_hex(4, id as u64);
@@ -21,7 +21,7 @@ pub fn put_id(page: &mut Page, id: u16)
 }
 
 // A register's value.
-pub fn put_word(page: &mut Page, word: u32)
+pub fn put_word(page: &mut Page<'_>, word: u32)
     ensures { page.new ≡ put (word_text word) page.old }
 {
     page.put_hex(8, word as u64);
@@ -36,7 +36,7 @@ fn offset_of(word: usize) -> u64
 }
 
 // An offset, in two hex digits, or three where two are too few.
-fn put_offset(page: &mut Page, offset: u64)
+fn put_offset(page: &mut Page<'_>, offset: u64)
     ensures { page.new ≡ put (offset_text offset) page.old }
 {
     if offset < 256 {
@@ -47,7 +47,7 @@ fn put_offset(page: &mut Page, offset: u64)
 }
 
 // Slot and offset.
-fn put_place(page: &mut Page, slot: usize, word: usize)
+fn put_place(page: &mut Page<'_>, slot: usize, word: usize)
     ensures { page.new ≡ put (place_text slot word) page.old }
 {
     page.put_named(b" slot ", slot as u64);
@@ -57,7 +57,7 @@ fn put_place(page: &mut Page, slot: usize, word: usize)
 }
 
 // The byte enables, in one hex digit, or two where one is too few.
-fn put_enables(page: &mut Page, enables: u8)
+fn put_enables(page: &mut Page<'_>, enables: u8)
     ensures { page.new ≡ put (enables_text enables) page.old }
 {
     if enables < 16 {
@@ -68,7 +68,7 @@ fn put_enables(page: &mut Page, enables: u8)
 }
 
 // A name, and on or off.
-pub fn put_switch(page: &mut Page, name: &[u8], on: bool)
+pub fn put_switch(page: &mut Page<'_>, name: &[u8], on: bool)
     ensures { page.new ≡ put (switch_text name.now on) page.old }
 {
     page.put_text(name);
@@ -76,7 +76,7 @@ pub fn put_switch(page: &mut Page, name: &[u8], on: bool)
 }
 
 // What a DRS signalling means: with 1 the DRS interrupt is raised, with 2 an FRS arrives.
-fn put_signalling_meaning(page: &mut Page, signalling: u8)
+fn put_signalling_meaning(page: &mut Page<'_>, signalling: u8)
     ensures { page.new ≡ put (signalling_meaning signalling) page.old }
 {
     match signalling {
@@ -88,7 +88,7 @@ fn put_signalling_meaning(page: &mut Page, signalling: u8)
 }
 
 // DRS signalling, and what it means.
-pub fn put_signalling(page: &mut Page, signalling: u8)
+pub fn put_signalling(page: &mut Page<'_>, signalling: u8)
     ensures { page.new ≡ put (signalling_text signalling) page.old }
 {
     page.put_named(b", DRS signalling ", signalling as u64);
@@ -98,7 +98,7 @@ pub fn put_signalling(page: &mut Page, signalling: u8)
 // ---- Messages
 
 // What an FRS reason means.
-fn put_reason_meaning(page: &mut Page, reason: u8)
+fn put_reason_meaning(page: &mut Page<'_>, reason: u8)
     ensures { page.new ≡ put (reason_meaning reason) page.old }
 {
     match reason {
@@ -112,7 +112,7 @@ fn put_reason_meaning(page: &mut Page, reason: u8)
 }
 
 // An FRS: the requester ID and the reason.
-pub fn put_frs(page: &mut Page, id: u16, reason: u8)
+pub fn put_frs(page: &mut Page<'_>, id: u16, reason: u8)
     ensures { page.new ≡ put (frs_text id reason) page.old }
 {
     page.put_text(b"FRS from ");
@@ -122,14 +122,14 @@ pub fn put_frs(page: &mut Page, id: u16, reason: u8)
 }
 
 // A DRS: the requester ID.
-pub fn put_drs(page: &mut Page, id: u16)
+pub fn put_drs(page: &mut Page<'_>, id: u16)
     ensures { page.new ≡ put (drs_text id) page.old }
 {
     page.put_text(b"DRS from ");
     put_id(page, id);
 }
 
-pub fn put_message(page: &mut Page, message: Option<Message>)
+pub fn put_message(page: &mut Page<'_>, message: Option<Message>)
     ensures { page.new ≡ put (message_text message) page.old }
 {
     match message {
@@ -141,7 +141,7 @@ pub fn put_message(page: &mut Page, message: Option<Message>)
 
 // ---- Records
 
-fn put_advance(page: &mut Page, by: u64)
+fn put_advance(page: &mut Page<'_>, by: u64)
     ensures { page.new ≡ put (advance_text by) page.old }
 {
     page.put_named(b"advance clock by ", by);
@@ -149,7 +149,7 @@ fn put_advance(page: &mut Page, by: u64)
 }
 
 // A configuration request: its name, slot, offset and byte enables.
-fn put_request(page: &mut Page, name: &[u8], request: Request)
+fn put_request(page: &mut Page<'_>, name: &[u8], request: Request)
     ensures { page.new ≡ put (request_text name.now request) page.old }
 {
     page.put_text(name);
@@ -159,7 +159,7 @@ fn put_request(page: &mut Page, name: &[u8], request: Request)
     page.put_text(b"h");
 }
 
-fn put_write(page: &mut Page, request: Request, data: u32)
+fn put_write(page: &mut Page<'_>, request: Request, data: u32)
     ensures { page.new ≡ put (write_text request «data») page.old }
 {
     put_request(page, b"configuration write", request);
@@ -167,7 +167,7 @@ fn put_write(page: &mut Page, request: Request, data: u32)
     put_word(page, data);
 }
 
-fn put_message_record(page: &mut Page, message: Option<Message>)
+fn put_message_record(page: &mut Page<'_>, message: Option<Message>)
     ensures { page.new ≡ put (message_record_text message) page.old }
 {
     page.put_text(b"message: ");
@@ -175,7 +175,7 @@ fn put_message_record(page: &mut Page, message: Option<Message>)
 }
 
 // A name of a list, where it applies; `later` where another stands before it.
-pub fn put_listed(page: &mut Page, later: bool, applies: bool, name: &[u8])
+pub fn put_listed(page: &mut Page<'_>, later: bool, applies: bool, name: &[u8])
     ensures { page.new ≡ put (listed_text later applies name.now) page.old }
 {
     if applies {
@@ -185,7 +185,7 @@ pub fn put_listed(page: &mut Page, later: bool, applies: bool, name: &[u8])
 }
 
 // The status bits by name, numbered as in record 0A.
-pub fn put_bits(page: &mut Page, bits: u8)
+pub fn put_bits(page: &mut Page<'_>, bits: u8)
     ensures { page.new ≡ put (bits_text bits) page.old }
 {
     let received = bits % 2 == 1;
@@ -201,7 +201,7 @@ pub fn put_bits(page: &mut Page, bits: u8)
     page.put_if(bits % 8 == 0, b" none");
 }
 
-fn put_clear(page: &mut Page, bits: u8)
+fn put_clear(page: &mut Page<'_>, bits: u8)
     ensures { page.new ≡ put (clear_text bits) page.old }
 {
     page.put_text(b"clear status bits:");
@@ -209,7 +209,7 @@ fn put_clear(page: &mut Page, bits: u8)
 }
 
 // The control byte.
-fn put_control(page: &mut Page, control: u8)
+fn put_control(page: &mut Page<'_>, control: u8)
     ensures { page.new ≡ put (control_text control) page.old }
 {
     page.put_text(b"control ");
@@ -219,7 +219,7 @@ fn put_control(page: &mut Page, control: u8)
     put_signalling(page, control / 4 % 4);
 }
 
-fn put_hardware(page: &mut Page, slot: usize, word: usize, mask: u32)
+fn put_hardware(page: &mut Page<'_>, slot: usize, word: usize, mask: u32)
     ensures { page.new ≡ put (hardware_text slot word mask) page.old }
 {
     page.put_text(b"hardware sets bits:");
@@ -250,7 +250,7 @@ pub fn kind_of(item: Record) -> u8
     }
 }
 
-pub fn put_record(page: &mut Page, item: Record)
+pub fn put_record(page: &mut Page<'_>, item: Record)
     ensures { page.new ≡ put (record_text item) page.old }
 {
     match item {

@@ -1,7 +1,9 @@
 -- Lines of and about time sheets, as antt computes them.
 use mathlib.Core.Path.{◌≡◌, refl}
 use mathlib.Core.Bool.{true}
+use mathlib.Core.List.{[]}
 use Prim.Native.Nat.{ℕ}
+use Rattle.std.specs.Prelude.{Some, None}
 use Rattle.bits.specs.Text.{chars}
 use Rattle.times.specs.declared.Code.{Code}
 use Rattle.times.specs.declared.ClaimedTime.{ClaimedTime}
@@ -138,10 +140,14 @@ too_long_time = refl
 
 -- ---- doubts
 
-ask_unit : doubt_text 2 2 (claim 300 Us) (code 0x12C) (code 0x525) AskUnit ≡ chars "slot 2 FLR: 300 us is coded as 300,032 ns (300.032 us), the card had 300 ns: is the unit right?"
+ask_unit : doubt_text 2 2 (claim 300 Us) (code 0x12C) (code 0x525) (Some AskUnit) ≡ chars "slot 2 FLR: 300 us is coded as 300,032 ns (300.032 us), the card had 300 ns: is the unit right?"
 unfolding doubt_text both_text unit_text claim_text nanos_text thousandths_text best_text time_text millionths_text in_unit_text grouped_from decimal_from three_of six_of hex_of glyph_of nanos_of power_of claimed_nanos nanos_in time_name slot_time_text code_text is_ns not_ns_text same_in_nanos_text rounded_text rounding_text
 ask_unit = refl
 
-one_is_zero : doubt_text 2 2 (claim 300 Us) (code 0) (code 0x525) OneIsZero ≡ chars "slot 2 FLR: 300 us is coded as 300,032 ns (300.032 us), the card had 0 ns"
+one_is_zero : doubt_text 2 2 (claim 300 Us) (code 0) (code 0x525) (Some OneIsZero) ≡ chars "slot 2 FLR: 300 us is coded as 300,032 ns (300.032 us), the card had 0 ns"
 unfolding doubt_text both_text unit_text claim_text nanos_text thousandths_text best_text time_text millionths_text in_unit_text grouped_from decimal_from three_of six_of hex_of glyph_of nanos_of power_of claimed_nanos nanos_in time_name slot_time_text code_text is_ns not_ns_text same_in_nanos_text rounded_text rounding_text
 one_is_zero = refl
+
+no_doubt : doubt_text 2 2 (claim 300 Us) (code 0x525) (code 0x525) None ≡ []
+unfolding doubt_text
+no_doubt = refl

@@ -1,5 +1,5 @@
 -- Codes far from those that the card had.
-use Rattle.std.specs.Prelude.{ℕ, List, ◌++◌}
+use Rattle.std.specs.Prelude.{ℕ, List, [], ◌++◌, Option, Some, None}
 use Rattle.bits.specs.Text.{chars}
 use Rattle.times.specs.declared.Code.{Code}
 use Rattle.times.specs.declared.ClaimedTime.{ClaimedTime}
@@ -19,7 +19,8 @@ both_text slot which claim before after =
     ++ chars ", the card had "
     ++ time_text (nanos_of before)
 
--- what is to be said of a doubtful code that a sheet gives, beside the one that was there before
-unfoldable pub doubt_text : (slot which : ℕ) → ClaimedTime → (before after : Code) → Doubt → List ℕ
-doubt_text slot which claim before after AskUnit = both_text slot which claim before after ++ chars ": is the unit right?"
-doubt_text slot which claim before after OneIsZero = both_text slot which claim before after
+-- what is to be said of a code that a sheet gives, beside the one that was there before; nothing without a doubt
+unfoldable pub doubt_text : (slot which : ℕ) → ClaimedTime → (before after : Code) → Option Doubt → List ℕ
+doubt_text slot which claim before after None = []
+doubt_text slot which claim before after (Some AskUnit) = both_text slot which claim before after ++ chars ": is the unit right?"
+doubt_text slot which claim before after (Some OneIsZero) = both_text slot which claim before after

@@ -10,21 +10,21 @@ use readiness::Slot;
 use text_line::Page;
 
 // How many slots there are.
-pub fn put_slots_fact(page: &mut Page, slots: usize)
+pub fn put_slots_fact(page: &mut Page<'_>, slots: usize)
     ensures { page.new ≡ put (slots_fact slots) page.old }
 {
     page.put_named(b"slots ", slots as u64);
 }
 
 // How many messages the queue has room for.
-pub fn put_queue_fact(page: &mut Page, queue: usize)
+pub fn put_queue_fact(page: &mut Page<'_>, queue: usize)
     ensures { page.new ≡ put (queue_fact queue) page.old }
 {
     page.put_named(b"queue ", queue as u64);
 }
 
 // The bus number.
-pub fn put_bus_fact(page: &mut Page, bus: u8)
+pub fn put_bus_fact(page: &mut Page<'_>, bus: u8)
     ensures { page.new ≡ put (bus_fact bus) page.old }
 {
     page.put_text(b"bus ");
@@ -32,7 +32,7 @@ pub fn put_bus_fact(page: &mut Page, bus: u8)
 }
 
 // The port's ID.
-pub fn put_port_fact(page: &mut Page, id: u16)
+pub fn put_port_fact(page: &mut Page<'_>, id: u16)
     ensures { page.new ≡ put (port_fact id) page.old }
 {
     page.put_text(b"port ");
@@ -40,7 +40,7 @@ pub fn put_port_fact(page: &mut Page, id: u16)
 }
 
 // A slot's entry.
-pub fn put_slot_fact(page: &mut Page, slot: usize, entry: Slot)
+pub fn put_slot_fact(page: &mut Page<'_>, slot: usize, entry: Slot)
     ensures { page.new ≡ put (slot_fact slot entry) page.old }
 {
     let reset = entry.reset;
@@ -56,7 +56,7 @@ pub fn put_slot_fact(page: &mut Page, slot: usize, entry: Slot)
 }
 
 // The default word at an index among all slots' words, 64 per slot.
-pub fn put_word_fact(page: &mut Page, index: usize, word: u32)
+pub fn put_word_fact(page: &mut Page<'_>, index: usize, word: u32)
     ensures { page.new ≡ put (word_fact index word) page.old }
 {
     page.put_named(b"word ", (index / 64) as u64);

@@ -13,7 +13,7 @@ use times::{
 };
 
 // A claim, and its nanoseconds where its unit is another.
-pub fn put_claimed(page: &mut Page, c: ClaimedTime)
+pub fn put_claimed(page: &mut Page<'_>, c: ClaimedTime)
     ensures { page.new ≡ put (claimed_text c) page.old }
 {
     put_claim(page, c);
@@ -21,7 +21,7 @@ pub fn put_claimed(page: &mut Page, c: ClaimedTime)
 }
 
 // A code's time in a unit, where that isn't ns.
-fn put_same_in_unit(page: &mut Page, code: Code, u: Unit)
+fn put_same_in_unit(page: &mut Page<'_>, code: Code, u: Unit)
     ensures { page.new ≡ put (same_in_unit_text code u) page.old }
 {
     if !is_ns(u) {
@@ -31,7 +31,7 @@ fn put_same_in_unit(page: &mut Page, code: Code, u: Unit)
 }
 
 // A code after its name, and its time, also in the claim's unit.
-fn put_coded(page: &mut Page, name: &[u8], c: ClaimedTime, code: Code)
+fn put_coded(page: &mut Page<'_>, name: &[u8], c: ClaimedTime, code: Code)
     ensures { page.new ≡ put (coded_text name.now c code) page.old }
 {
     put_code(page, name, code);
@@ -41,7 +41,7 @@ fn put_coded(page: &mut Page, name: &[u8], c: ClaimedTime, code: Code)
 }
 
 // The code that a claim is given.
-pub fn put_given(page: &mut Page, c: ClaimedTime, code: Code)
+pub fn put_given(page: &mut Page<'_>, c: ClaimedTime, code: Code)
     ensures { page.new ≡ put (given_text c code) page.old }
 {
     put_coded(page, b"code ", c, code);
@@ -49,7 +49,7 @@ pub fn put_given(page: &mut Page, c: ClaimedTime, code: Code)
 }
 
 // The code of the next smaller time, and by how much it is below the claim.
-pub fn put_lower(page: &mut Page, c: ClaimedTime, code: Code)
+pub fn put_lower(page: &mut Page<'_>, c: ClaimedTime, code: Code)
     ensures { page.new ≡ put (lower_text c code) page.old }
 {
     let claim = nanos_number(claimed_nanos(c));
@@ -61,14 +61,14 @@ pub fn put_lower(page: &mut Page, c: ClaimedTime, code: Code)
 }
 
 // That there is no smaller time.
-pub fn put_no_lower(page: &mut Page)
+pub fn put_no_lower(page: &mut Page<'_>)
     ensures { page.new ≡ put no_lower_text page.old }
 {
     page.put_text(b"no lower code: 0 ns is the least time");
 }
 
 // A claim above the greatest time.
-pub fn put_too_long(page: &mut Page, c: ClaimedTime)
+pub fn put_too_long(page: &mut Page<'_>, c: ClaimedTime)
     ensures { page.new ≡ put (too_long_text c) page.old }
 {
     put_claim(page, c);

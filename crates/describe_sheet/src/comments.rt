@@ -12,7 +12,7 @@ use text_line::Page;
 use times::{ClaimedTime, Code, in_nanos};
 
 // A time of a slot as it is claimed.
-fn put_claimed_comment(page: &mut Page, slot: u64, which: usize, claim: ClaimedTime)
+fn put_claimed_comment(page: &mut Page<'_>, slot: u64, which: usize, claim: ClaimedTime)
     ensures { page.new ≡ put (claimed_comment slot which claim) page.old }
 {
     page.put_text(b"# ");
@@ -23,7 +23,7 @@ fn put_claimed_comment(page: &mut Page, slot: u64, which: usize, claim: ClaimedT
 }
 
 // Its code, and the time of that.
-fn put_code_comment(page: &mut Page, claim: ClaimedTime, code: Code)
+fn put_code_comment(page: &mut Page<'_>, claim: ClaimedTime, code: Code)
     ensures { page.new ≡ put (code_comment claim code) page.old }
 {
     put_code(page, b"; code ", code);
@@ -33,7 +33,7 @@ fn put_code_comment(page: &mut Page, claim: ClaimedTime, code: Code)
 }
 
 // A time of a slot on the sheet: the claim, and the code that it is given.
-pub fn put_time_comment(page: &mut Page, slot: u64, which: usize, claim: ClaimedTime, code: Code)
+pub fn put_time_comment(page: &mut Page<'_>, slot: u64, which: usize, claim: ClaimedTime, code: Code)
     ensures { page.new ≡ put (time_comment slot which claim code) page.old }
 {
     put_claimed_comment(page, slot, which, claim);
@@ -41,7 +41,7 @@ pub fn put_time_comment(page: &mut Page, slot: u64, which: usize, claim: Claimed
 }
 
 // A slot that no line names.
-pub fn put_unnamed_comment(page: &mut Page, slot: u64)
+pub fn put_unnamed_comment(page: &mut Page<'_>, slot: u64)
     ensures { page.new ≡ put (unnamed_comment slot) page.old }
 {
     page.put_named(b"# slot ", slot);

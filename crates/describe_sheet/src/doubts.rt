@@ -13,7 +13,7 @@ use text_line::Page;
 use times::{ClaimedTime, Code, in_nanos};
 
 // A claim, the time of its code, and the time that the card had.
-fn put_both(page: &mut Page, slot: u64, which: usize, claim: ClaimedTime, before: Code, after: Code)
+fn put_both(page: &mut Page<'_>, slot: u64, which: usize, claim: ClaimedTime, before: Code, after: Code)
     ensures { page.new ≡ put (both_text slot which claim before after) page.old }
 {
     put_slot_time(page, slot, which);
@@ -24,23 +24,24 @@ fn put_both(page: &mut Page, slot: u64, which: usize, claim: ClaimedTime, before
     put_time(page, in_nanos(before));
 }
 
-// What is to be said of a doubtful code that a sheet gives, beside the one that was there before.
+// What is to be said of a code that a sheet gives, beside the one that was there before; nothing without a doubt.
 pub fn put_doubt(
-    page: &mut Page,
+    page: &mut Page<'_>,
     slot: u64,
     which: usize,
     claim: ClaimedTime,
     before: Code,
     after: Code,
-    doubt: Doubt,
+    doubt: Option<Doubt>,
 )
     ensures { page.new ≡ put (doubt_text slot which claim before after doubt) page.old }
 {
     match doubt {
-        Doubt::AskUnit => {
+        None => {}
+        Some(Doubt::AskUnit) => {
             put_both(page, slot, which, claim, before, after);
             page.put_text(b": is the unit right?");
         }
-        Doubt::OneIsZero => put_both(page, slot, which, claim, before, after),
+        Some(Doubt::OneIsZero) => put_both(page, slot, which, claim, before, after),
     }
 }

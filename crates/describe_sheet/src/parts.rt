@@ -12,7 +12,7 @@ use times::{
 };
 
 // The name of the first to fourth time of a slot.
-pub fn put_time_name(page: &mut Page, which: usize)
+pub fn put_time_name(page: &mut Page<'_>, which: usize)
     ensures { page.new ≡ put (time_name which) page.old }
 {
     if which == 0 {
@@ -27,7 +27,7 @@ pub fn put_time_name(page: &mut Page, which: usize)
 }
 
 // A slot and the name of a time.
-pub fn put_slot_time(page: &mut Page, slot: u64, which: usize)
+pub fn put_slot_time(page: &mut Page<'_>, slot: u64, which: usize)
     ensures { page.new ≡ put (slot_time_text slot which) page.old }
 {
     page.put_named(b"slot ", slot);
@@ -37,7 +37,7 @@ pub fn put_slot_time(page: &mut Page, slot: u64, which: usize)
 }
 
 // A code in three hex digits, after its name.
-pub fn put_code(page: &mut Page, name: &[u8], code: Code)
+pub fn put_code(page: &mut Page<'_>, name: &[u8], code: Code)
     ensures { page.new ≡ put (code_text name.now code) page.old }
 {
     page.put_text(name);
@@ -52,7 +52,7 @@ pub fn is_ns(u: Unit) -> bool
 }
 
 // Nanoseconds, where the unit is another.
-fn put_not_ns(page: &mut Page, u: Unit, n: u64)
+fn put_not_ns(page: &mut Page<'_>, u: Unit, n: u64)
     ensures { page.new ≡ put (not_ns_text u n) page.old }
 {
     if !is_ns(u) {
@@ -62,14 +62,14 @@ fn put_not_ns(page: &mut Page, u: Unit, n: u64)
 }
 
 // A claim's nanoseconds, where its unit is another.
-pub fn put_same_in_nanos(page: &mut Page, c: ClaimedTime)
+pub fn put_same_in_nanos(page: &mut Page<'_>, c: ClaimedTime)
     ensures { page.new ≡ put (same_in_nanos_text c) page.old }
 {
     put_not_ns(page, claim_unit(c), nanos_number(claimed_nanos(c)));
 }
 
 // By how much a time is above a claim.
-fn put_rounded(page: &mut Page, claim: u64, time: u64)
+fn put_rounded(page: &mut Page<'_>, claim: u64, time: u64)
     ensures { page.new ≡ put (rounded_text claim time) page.old }
 {
     if time == claim {
@@ -81,7 +81,7 @@ fn put_rounded(page: &mut Page, claim: u64, time: u64)
 }
 
 // By how much a code's time is above a claim.
-pub fn put_rounding(page: &mut Page, c: ClaimedTime, code: Code)
+pub fn put_rounding(page: &mut Page<'_>, c: ClaimedTime, code: Code)
     ensures { page.new ≡ put (rounding_text c code) page.old }
 {
     let claim = nanos_number(claimed_nanos(c));

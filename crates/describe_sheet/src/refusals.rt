@@ -29,7 +29,7 @@ fn slots_below(slots: usize) -> u64
 }
 
 // The name of a field that is a number.
-fn put_field_name(page: &mut Page, field: usize)
+fn put_field_name(page: &mut Page<'_>, field: usize)
     ensures { page.new ≡ put (field_name field) page.old }
 {
     if field == 0 {
@@ -42,7 +42,7 @@ fn put_field_name(page: &mut Page, field: usize)
 }
 
 // 40: where the line departs from the layout, and what was expected there.
-fn put_layout(page: &mut Page, fault: Fault)
+fn put_layout(page: &mut Page<'_>, fault: Fault)
     ensures { page.new ≡ put (layout_text fault) page.old }
 {
     let field = fault.field;
@@ -56,7 +56,7 @@ fn put_layout(page: &mut Page, fault: Fault)
 }
 
 // 41: a slot that the card hasn't.
-fn put_no_slot(page: &mut Page, slots: usize, slot: u64)
+fn put_no_slot(page: &mut Page<'_>, slots: usize, slot: u64)
     ensures { page.new ≡ put (no_slot_text slots slot) page.old }
 {
     page.put_named(b"41: slot ", slot);
@@ -64,7 +64,7 @@ fn put_no_slot(page: &mut Page, slots: usize, slot: u64)
 }
 
 // 42: a slot that was named before.
-fn put_named_before(page: &mut Page, slot: u64)
+fn put_named_before(page: &mut Page<'_>, slot: u64)
     ensures { page.new ≡ put (named_text slot) page.old }
 {
     page.put_named(b"42: slot ", slot);
@@ -79,7 +79,7 @@ fn is_too_long(c: ClaimedTime) -> bool
 }
 
 // 43: a time above the greatest.
-fn put_one_too_long(page: &mut Page, which: usize, c: ClaimedTime)
+fn put_one_too_long(page: &mut Page<'_>, which: usize, c: ClaimedTime)
     ensures { page.new ≡ put (one_too_long_text which c) page.old }
 {
     page.put_text(b"43: ");
@@ -89,7 +89,7 @@ fn put_one_too_long(page: &mut Page, which: usize, c: ClaimedTime)
 }
 
 // The first of the four that is.
-fn put_first_too_long(page: &mut Page, l: SheetLine)
+fn put_first_too_long(page: &mut Page<'_>, l: SheetLine)
     ensures { page.new ≡ put (first_too_long_text l) page.old }
 {
     let reset = l.reset;
@@ -108,7 +108,7 @@ fn put_first_too_long(page: &mut Page, l: SheetLine)
 }
 
 // The number of a refusal, and its reason.
-fn put_reason(page: &mut Page, number: u8, slots: usize, l: SheetLine, fault: Fault)
+fn put_reason(page: &mut Page<'_>, number: u8, slots: usize, l: SheetLine, fault: Fault)
     ensures { page.new ≡ put (reason_text number slots l fault) page.old }
 {
     if number == 40 {
@@ -124,7 +124,7 @@ fn put_reason(page: &mut Page, number: u8, slots: usize, l: SheetLine, fault: Fa
 
 // The line that refuses a sheet, counted from 1, with the refusal's number and its reason.
 pub fn put_refusal(
-    page: &mut Page,
+    page: &mut Page<'_>,
     number: u8,
     row: usize,
     slots: usize,

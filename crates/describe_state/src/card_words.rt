@@ -13,7 +13,7 @@ use text_line::Page;
 use times::Code;
 
 // The card's first line: slots, queue, bus number and the port's ID.
-pub fn put_front(page: &mut Page, slots: usize, queue: usize, bus: u8, port_id: u16)
+pub fn put_front(page: &mut Page<'_>, slots: usize, queue: usize, bus: u8, port_id: u16)
     ensures { page.new ≡ put (front_text slots queue bus port_id) page.old }
 {
     page.put_named(b"slots ", slots as u64);
@@ -25,7 +25,7 @@ pub fn put_front(page: &mut Page, slots: usize, queue: usize, bus: u8, port_id: 
 }
 
 // A code after its name, with its time.
-fn put_code(page: &mut Page, name: &[u8], code: Code)
+fn put_code(page: &mut Page<'_>, name: &[u8], code: Code)
     ensures { page.new ≡ put (code_text name.now code) page.old }
 {
     page.put_text(name);
@@ -36,7 +36,7 @@ fn put_code(page: &mut Page, name: &[u8], code: Code)
 }
 
 // A slot's entry: its four codes, each with its time, and whether it sends FRS.
-pub fn put_entry(page: &mut Page, slot: usize, entry: Slot)
+pub fn put_entry(page: &mut Page<'_>, slot: usize, entry: Slot)
     ensures { page.new ≡ put (entry_text slot entry) page.old }
 {
     let reset = entry.reset;
@@ -52,7 +52,7 @@ pub fn put_entry(page: &mut Page, slot: usize, entry: Slot)
 }
 
 // The default word at an index among all slots' words, 64 per slot.
-pub fn put_default(page: &mut Page, index: usize, word: u32)
+pub fn put_default(page: &mut Page<'_>, index: usize, word: u32)
     ensures { page.new ≡ put (default_text index word) page.old }
 {
     page.put_named(b"slot ", (index / 64) as u64);

@@ -13,7 +13,7 @@ use text_line::Page;
 use times::Nanos;
 
 // A moment, after its name.
-fn put_moment(page: &mut Page, name: &[u8], moment: Nanos)
+fn put_moment(page: &mut Page<'_>, name: &[u8], moment: Nanos)
     ensures { page.new ≡ put (moment_text name.now moment) page.old }
 {
     page.put_named(name, times::nanos_number(moment));
@@ -21,7 +21,7 @@ fn put_moment(page: &mut Page, name: &[u8], moment: Nanos)
 }
 
 // The clock and the link, and whether a DRS is owed.
-pub fn put_link(page: &mut Page, dev: Dev)
+pub fn put_link(page: &mut Page<'_>, dev: Dev)
     ensures { page.new ≡ put (link_text dev) page.old }
 {
     let clock = dev.clock;
@@ -32,7 +32,7 @@ pub fn put_link(page: &mut Page, dev: Dev)
 }
 
 // A bit by its name.
-fn put_bit(page: &mut Page, name: &[u8], bit: bool)
+fn put_bit(page: &mut Page<'_>, name: &[u8], bit: bool)
     ensures { page.new ≡ put (bit_text name.now bit) page.old }
 {
     page.put_text(name);
@@ -40,7 +40,7 @@ fn put_bit(page: &mut Page, name: &[u8], bit: bool)
 }
 
 // The status bits of the port.
-pub fn put_port_bits(page: &mut Page, dev: Dev)
+pub fn put_port_bits(page: &mut Page<'_>, dev: Dev)
     ensures { page.new ≡ put (port_bits_text dev) page.old }
 {
     let queue = dev.queue;
@@ -50,7 +50,7 @@ pub fn put_port_bits(page: &mut Page, dev: Dev)
 }
 
 // The control bits of the port.
-pub fn put_port_control(page: &mut Page, control: Control)
+pub fn put_port_control(page: &mut Page<'_>, control: Control)
     ensures { page.new ≡ put (port_control_text control) page.old }
 {
     put_switch(page, b"CRS visibility ", control.visibility);
@@ -59,7 +59,7 @@ pub fn put_port_control(page: &mut Page, control: Control)
 }
 
 // The depth of the queue, and the greatest.
-pub fn put_queue(page: &mut Page, depth: usize, most: usize)
+pub fn put_queue(page: &mut Page<'_>, depth: usize, most: usize)
     ensures { page.new ≡ put (queue_text depth most) page.old }
 {
     page.put_named(b"queue depth ", depth as u64);
@@ -67,7 +67,7 @@ pub fn put_queue(page: &mut Page, depth: usize, most: usize)
 }
 
 // The message in a queue cell.
-pub fn put_cell(page: &mut Page, cell: u32)
+pub fn put_cell(page: &mut Page<'_>, cell: u32)
     ensures { page.new ≡ put (cell_text cell) page.old }
 {
     let id = (cell % 65536) as u16;
@@ -86,14 +86,14 @@ fn queued_cell(cells: &[u32], start: usize, i: usize) -> u32
 }
 
 // The i-th oldest message of that queue.
-pub fn put_queued(page: &mut Page, cells: &[u32], start: usize, i: usize)
+pub fn put_queued(page: &mut Page<'_>, cells: &[u32], start: usize, i: usize)
     ensures { page.new ≡ put (queued_text cells.now start i) page.old }
 {
     put_cell(page, queued_cell(cells, start, i));
 }
 
 // What a Pending slot is starting after.
-fn put_cause(page: &mut Page, cause: Cause)
+fn put_cause(page: &mut Page<'_>, cause: Cause)
     ensures { page.new ≡ put (cause_text cause) page.old }
 {
     match cause {
@@ -106,14 +106,14 @@ fn put_cause(page: &mut Page, cause: Cause)
     }
 }
 
-fn put_pending(page: &mut Page, cause: Cause, ready: Nanos)
+fn put_pending(page: &mut Page<'_>, cause: Cause, ready: Nanos)
     ensures { page.new ≡ put (pending_text cause ready) page.old }
 {
     put_moment(page, b": Pending until ", ready);
     put_cause(page, cause);
 }
 
-fn put_phase(page: &mut Page, phase: Phase)
+fn put_phase(page: &mut Page<'_>, phase: Phase)
     ensures { page.new ≡ put (phase_text phase) page.old }
 {
     match phase {
@@ -124,7 +124,7 @@ fn put_phase(page: &mut Page, phase: Phase)
 }
 
 // A slot's state, with its ready time where it is Pending.
-pub fn put_slot(page: &mut Page, slot: usize, phase: Phase)
+pub fn put_slot(page: &mut Page<'_>, slot: usize, phase: Phase)
     ensures { page.new ≡ put (slot_text slot phase) page.old }
 {
     page.put_named(b"slot ", slot as u64);

@@ -9,7 +9,7 @@ use text_line::Page;
 use times::{ClaimedTime, Nanos, Unit, claim_number, claim_unit, nanos_number};
 
 // A unit.
-pub fn put_unit(page: &mut Page, u: Unit)
+pub fn put_unit(page: &mut Page<'_>, u: Unit)
     ensures { page.new ≡ put (unit_text u) page.old }
 {
     match u {
@@ -20,7 +20,7 @@ pub fn put_unit(page: &mut Page, u: Unit)
 }
 
 // A claim, as it is claimed.
-pub fn put_claim(page: &mut Page, c: ClaimedTime)
+pub fn put_claim(page: &mut Page<'_>, c: ClaimedTime)
     ensures { page.new ≡ put (claim_text c) page.old }
 {
     page.put_decimal(claim_number(c));
@@ -29,7 +29,7 @@ pub fn put_claim(page: &mut Page, c: ClaimedTime)
 }
 
 // Nanoseconds, thousands grouped.
-pub fn put_nanos(page: &mut Page, n: u64)
+pub fn put_nanos(page: &mut Page<'_>, n: u64)
     ensures { page.new ≡ put (nanos_text n) page.old }
 {
     page.put_grouped(n);
@@ -37,7 +37,7 @@ pub fn put_nanos(page: &mut Page, n: u64)
 }
 
 // So many thousandths, and what stands behind them.
-fn put_thousandths(page: &mut Page, n: u64, end: &[u8])
+fn put_thousandths(page: &mut Page<'_>, n: u64, end: &[u8])
     ensures { page.new ≡ put (thousandths_text n end.now) page.old }
 {
     page.put_grouped(n / 1000);
@@ -47,7 +47,7 @@ fn put_thousandths(page: &mut Page, n: u64, end: &[u8])
 }
 
 // Nanoseconds once more in us, ms or s, from 1 us on.
-fn put_best(page: &mut Page, n: u64)
+fn put_best(page: &mut Page<'_>, n: u64)
     ensures { page.new ≡ put (best_text n) page.old }
 {
     if n >= 1000 {
@@ -63,7 +63,7 @@ fn put_best(page: &mut Page, n: u64)
 }
 
 // A time in nanoseconds, and from 1 us on in the unit that reads best, three decimals, the rest cut off.
-pub fn put_time(page: &mut Page, t: Nanos)
+pub fn put_time(page: &mut Page<'_>, t: Nanos)
     ensures { page.new ≡ put (time_text t) page.old }
 {
     let n = nanos_number(t);
@@ -72,7 +72,7 @@ pub fn put_time(page: &mut Page, t: Nanos)
 }
 
 // So many millionths of a millisecond.
-fn put_millionths(page: &mut Page, n: u64)
+fn put_millionths(page: &mut Page<'_>, n: u64)
     ensures { page.new ≡ put (millionths_text n) page.old }
 {
     page.put_grouped(n / 1000000);
@@ -82,7 +82,7 @@ fn put_millionths(page: &mut Page, n: u64)
 }
 
 // A time in a unit, exactly.
-pub fn put_in_unit(page: &mut Page, t: Nanos, u: Unit)
+pub fn put_in_unit(page: &mut Page<'_>, t: Nanos, u: Unit)
     ensures { page.new ≡ put (in_unit_text t u) page.old }
 {
     let n = nanos_number(t);

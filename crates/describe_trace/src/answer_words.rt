@@ -12,7 +12,7 @@ use records::Record;
 use text_line::Page;
 
 // Status 23, by the record's kind: what of the link or the slot is not as the record wants it.
-fn put_wrong_state(page: &mut Page, kind: u8)
+fn put_wrong_state(page: &mut Page<'_>, kind: u8)
     ensures { page.new ≡ put (wrong_state_text kind) page.old }
 {
     match kind {
@@ -23,7 +23,7 @@ fn put_wrong_state(page: &mut Page, kind: u8)
 }
 
 // Status 24: which value is not allowed.
-fn put_bad_value(page: &mut Page, kind: u8)
+fn put_bad_value(page: &mut Page<'_>, kind: u8)
     ensures { page.new ≡ put (bad_value_text kind) page.old }
 {
     match kind {
@@ -33,7 +33,7 @@ fn put_bad_value(page: &mut Page, kind: u8)
 }
 
 // A status by name.
-fn put_status(page: &mut Page, kind: u8, status: u8)
+fn put_status(page: &mut Page<'_>, kind: u8, status: u8)
     ensures { page.new ≡ put (status_text kind status) page.old }
 {
     match status {
@@ -52,7 +52,7 @@ fn put_status(page: &mut Page, kind: u8, status: u8)
 }
 
 // The interrupts by name, where there are any.
-fn put_interrupts(page: &mut Page, bits: u8)
+fn put_interrupts(page: &mut Page<'_>, bits: u8)
     ensures { page.new ≡ put (interrupts_text bits) page.old }
 {
     let received = bits % 2 == 1;
@@ -64,7 +64,7 @@ fn put_interrupts(page: &mut Page, bits: u8)
 }
 
 // A count with its name, where it isn't 0.
-fn put_count(page: &mut Page, name: &[u8], n: u8)
+fn put_count(page: &mut Page<'_>, name: &[u8], n: u8)
     ensures { page.new ≡ put (count_text name.now n) page.old }
 {
     if n != 0 {
@@ -90,7 +90,7 @@ fn reads(kind: u8) -> bool
 }
 
 // The data, where the record reads something.
-fn put_data(page: &mut Page, shown: bool, data: u64)
+fn put_data(page: &mut Page<'_>, shown: bool, data: u64)
     ensures { page.new ≡ put (data_text shown «data») page.old }
 {
     if shown {
@@ -101,7 +101,7 @@ fn put_data(page: &mut Page, shown: bool, data: u64)
 }
 
 // The answer to a record: its 8 bytes.
-pub fn put_answer(page: &mut Page, item: Record, answer: &[u8])
+pub fn put_answer(page: &mut Page<'_>, item: Record, answer: &[u8])
     ensures { page.new ≡ put (answer_text item answer.now) page.old }
 {
     let kind = kind_of(item);

@@ -13,7 +13,7 @@ use text_line::Page;
 use times::Nanos;
 
 // A record at its byte offset.
-pub fn put_shown(page: &mut Page, offset: u64, item: Record)
+pub fn put_shown(page: &mut Page<'_>, offset: u64, item: Record)
     ensures { page.new ≡ put (shown_text offset item) page.old }
 {
     page.put_column(offset);
@@ -22,7 +22,7 @@ pub fn put_shown(page: &mut Page, offset: u64, item: Record)
 }
 
 // A record that was run: byte offset, clock after it, the record and its answer.
-pub fn put_run(page: &mut Page, offset: u64, clock: Nanos, item: Record, answer: &[u8])
+pub fn put_run(page: &mut Page<'_>, offset: u64, clock: Nanos, item: Record, answer: &[u8])
     ensures { page.new ≡ put (run_text offset clock item answer.now) page.old }
 {
     page.put_column(offset);
@@ -34,7 +34,7 @@ pub fn put_run(page: &mut Page, offset: u64, clock: Nanos, item: Record, answer:
 }
 
 // A byte that no kind has.
-pub fn put_unknown(page: &mut Page, offset: u64, kind: u8)
+pub fn put_unknown(page: &mut Page<'_>, offset: u64, kind: u8)
     ensures { page.new ≡ put (unknown_text offset kind) page.old }
 {
     page.put_column(offset);
@@ -44,7 +44,7 @@ pub fn put_unknown(page: &mut Page, offset: u64, kind: u8)
 }
 
 // A record that the file's end cuts off: its kind, how many of its bytes are there, and how many it has.
-pub fn put_incomplete(page: &mut Page, offset: u64, kind: u8, count: usize, size: usize)
+pub fn put_incomplete(page: &mut Page<'_>, offset: u64, kind: u8, count: usize, size: usize)
     ensures { page.new ≡ put (incomplete_text offset kind count size) page.old }
 {
     page.put_column(offset);
@@ -56,7 +56,7 @@ pub fn put_incomplete(page: &mut Page, offset: u64, kind: u8, count: usize, size
 }
 
 // What a number given for no means.
-fn put_number_meaning(page: &mut Page, number: u8)
+fn put_number_meaning(page: &mut Page<'_>, number: u8)
     ensures { page.new ≡ put (number_meaning number) page.old }
 {
     match number {
@@ -75,7 +75,7 @@ fn put_number_meaning(page: &mut Page, number: u8)
 }
 
 // A number with its meaning.
-pub fn put_number(page: &mut Page, number: u8)
+pub fn put_number(page: &mut Page<'_>, number: u8)
     ensures { page.new ≡ put (number_text number) page.old }
 {
     page.put_named(b"number ", number as u64);
@@ -83,7 +83,7 @@ pub fn put_number(page: &mut Page, number: u8)
 }
 
 // A set-up that is refused.
-pub fn put_refusal(page: &mut Page, number: u8)
+pub fn put_refusal(page: &mut Page<'_>, number: u8)
     ensures { page.new ≡ put (refusal_text number) page.old }
 {
     page.put_text(b"set-up refused: ");
@@ -91,7 +91,7 @@ pub fn put_refusal(page: &mut Page, number: u8)
 }
 
 // The end of a run: the last number, bytes consumed, records, and how many bytes of an incomplete record are carried.
-pub fn put_end(page: &mut Page, number: u8, consumed: u64, records: u64, carried: usize)
+pub fn put_end(page: &mut Page<'_>, number: u8, consumed: u64, records: u64, carried: usize)
     ensures { page.new ≡ put (end_text number consumed records carried) page.old }
 {
     put_number(page, number);
@@ -101,7 +101,7 @@ pub fn put_end(page: &mut Page, number: u8, consumed: u64, records: u64, carried
 }
 
 // The end of a trace that was only shown.
-pub fn put_totals(page: &mut Page, records: u64, bytes: u64)
+pub fn put_totals(page: &mut Page<'_>, records: u64, bytes: u64)
     ensures { page.new ≡ put (totals_text records bytes) page.old }
 {
     page.put_named(b"records ", records);

@@ -91,10 +91,12 @@ struct Score<'a> {
 fn print_early(out: &mut Output<'_>, name: &[u8], state: ReplaySession) {
     let fault = fault_of(state);
     out.make_room(ROOM);
-    out.page.put_text(name);
-    out.page.put_text(b": ends early: ");
     let byte = fault_byte(state.session.offset, fault);
-    put_fault_message(&mut out.page, byte, fault);
+    out.put(|page| {
+        page.put_text(name);
+        page.put_text(b": ends early: ");
+        put_fault_message(page, byte, fault);
+    });
     out.end_line();
 }
 

@@ -8,6 +8,7 @@ use lib.ListN.{length, get_or, drop, drop_of_length-le}
 use lib.Seq.{drop-cons}
 use Rattle.readiness.specs.declared.Slot.{Slot}
 use Rattle.readiness.specs.Blank.{blank_slot}
+use Rattle.text_line.specs.declared.text.Page.{Page}
 use Rattle.text_line.specs.Page.{put}
 use Rattle.text_line.specs.Text.{text_if}
 use Rattle.text_line.proofs.Putting.{put_append, put_nothing}
@@ -17,22 +18,22 @@ use Rattle.sheet_text.specs.Doubts.{slot_doubts, doubts_from}
 
 -- ---- any text
 
-pub nothing : (page : List ℕ) → page ≡ put [] page
+pub nothing : (page : Page) → page ≡ put [] page
 nothing page = sym (put_nothing page)
 
-pub record Left (whole before rest page : List ℕ) : Type 0 where
+pub record Left (whole : List ℕ) (before : Page) (rest : List ℕ) (page : Page) : Type 0 where
   pub so_far : put whole before ≡ put rest page
 
-pub starts : {whole page : List ℕ} → Left whole page whole page
+pub starts : {whole : List ℕ} {page : Page} → Left whole page whole page
 starts = record { so_far = refl }
 
 -- a piece more
-pub turns : {whole before rest page after : List ℕ} (piece less : List ℕ) → Left whole before rest page
+pub turns : {whole rest : List ℕ} {before page after : Page} (piece less : List ℕ) → Left whole before rest page
     → rest ≡ piece ++ less → after ≡ put piece page → Left whole before less after
 turns {page = page} piece less h e p =
     record { so_far = h.so_far ∙ ap (λ (t : List ℕ). put t page) e ∙ put_append piece less page ∙ ap (put less) (sym p) }
 
-pub ends : {whole before rest page : List ℕ} → Left whole before rest page → rest ≡ [] → page ≡ put whole before
+pub ends : {whole rest : List ℕ} {before page : Page} → Left whole before rest page → rest ≡ [] → page ≡ put whole before
 ends {page = page} h e = sym (h.so_far ∙ ap (λ (t : List ℕ). put t page) e ∙ put_nothing page)
 
 -- ---- words

@@ -15,7 +15,7 @@ use Rattle.sheet_text.specs.Lines.{about}
 
 -- the line about a doubt; nothing without one
 abbrev pub doubt_line : (name : List ℕ) (slot which : ℕ) → ClaimedTime → (before after : Code) → Option Doubt → List ℕ
-doubt_line name slot which claim before after (Some d) = about name (doubt_text slot which claim before after d)
+doubt_line name slot which claim before after (Some d) = about name (doubt_text slot which claim before after (Some d))
 doubt_line name slot which claim before after None = []
 
 -- the line of a time, where there is a doubt

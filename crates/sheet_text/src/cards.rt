@@ -24,7 +24,7 @@ use times::{ClaimedTime, Code};
 const END: u8 = 0x0A;
 
 // The comment in front; slots, queue, bus and port.
-fn put_front(page: &mut Page, setup: Setup, queue: usize)
+fn put_front(page: &mut Page<'_>, setup: Setup, queue: usize)
     ensures { page.new ≡ put (front_text setup queue) page.old }
 {
     page.put_text(b"# The times of a sheet, on a card.\n");
@@ -41,7 +41,7 @@ fn put_front(page: &mut Page, setup: Setup, queue: usize)
 // ---- Slots
 
 // The comment on a time.
-fn put_time_line(page: &mut Page, slot: u64, which: usize, claim: ClaimedTime, code: Code)
+fn put_time_line(page: &mut Page<'_>, slot: u64, which: usize, claim: ClaimedTime, code: Code)
     ensures { page.new ≡ put (ended (time_comment slot which claim code)) page.old }
 {
     put_time_comment(page, slot, which, claim, code);
@@ -49,7 +49,7 @@ fn put_time_line(page: &mut Page, slot: u64, which: usize, claim: ClaimedTime, c
 }
 
 // A comment for each time of a line, with the code that the slot has.
-fn put_times(page: &mut Page, slot: u64, l: SheetLine, s: Slot)
+fn put_times(page: &mut Page<'_>, slot: u64, l: SheetLine, s: Slot)
     ensures { page.new ≡ put (times_text slot l s) page.old }
 {
     put_time_line(page, slot, 0, l.reset, s.reset);
@@ -59,7 +59,7 @@ fn put_times(page: &mut Page, slot: u64, l: SheetLine, s: Slot)
 }
 
 // The comments of a slot: its times, where a line names it.
-fn put_comments(page: &mut Page, slot: u64, l: LineRead, s: Slot)
+fn put_comments(page: &mut Page<'_>, slot: u64, l: LineRead, s: Slot)
     ensures { page.new ≡ put (comments_text slot l s) page.old }
 {
     if l.fits {
@@ -71,7 +71,7 @@ fn put_comments(page: &mut Page, slot: u64, l: LineRead, s: Slot)
 }
 
 // A slot: its comments, and its line.
-fn put_slot(page: &mut Page, slot: usize, text: &[u8], s: Slot)
+fn put_slot(page: &mut Page<'_>, slot: usize, text: &[u8], s: Slot)
     ensures { page.new ≡ put (slot_text slot (lines_of text.now) s) page.old }
 {
     let number = slot as u64;
@@ -82,7 +82,7 @@ fn put_slot(page: &mut Page, slot: usize, text: &[u8], s: Slot)
 }
 
 // The slot, where it is below the count.
-fn put_slot_below(page: &mut Page, slots: usize, slot: usize, text: &[u8], s: Slot)
+fn put_slot_below(page: &mut Page<'_>, slots: usize, slot: usize, text: &[u8], s: Slot)
     ensures { page.new ≡ put (text_if (ltb slot slots) (slot_text slot (lines_of text.now) s)) page.old }
 {
     if slot < slots {
@@ -91,7 +91,7 @@ fn put_slot_below(page: &mut Page, slots: usize, slot: usize, text: &[u8], s: Sl
 }
 
 // Every slot below the count.
-fn put_slots(page: &mut Page, slots: usize, entries: [Slot; 32], text: &[u8])
+fn put_slots(page: &mut Page<'_>, slots: usize, entries: [Slot; 32], text: &[u8])
     ensures { page.new ≡ put (slots_from 0 slots (lines_of text.now) entries) page.old }
 {
     for (i, entry) in entries.iter().enumerate() {
@@ -102,7 +102,7 @@ fn put_slots(page: &mut Page, slots: usize, entries: [Slot; 32], text: &[u8])
 // ---- Default words
 
 // A default word, where it isn't 0.
-fn put_word(page: &mut Page, index: usize, word: u32)
+fn put_word(page: &mut Page<'_>, index: usize, word: u32)
     ensures { page.new ≡ put (word_text index word) page.old }
 {
     if word != 0 {
@@ -111,7 +111,7 @@ fn put_word(page: &mut Page, index: usize, word: u32)
     }
 }
 
-fn put_words(page: &mut Page, words: &[u32])
+fn put_words(page: &mut Page<'_>, words: &[u32])
     ensures { page.new ≡ put (words_from 0 words.now) page.old }
 {
     for (i, word) in words.iter().enumerate() {
@@ -122,7 +122,7 @@ fn put_words(page: &mut Page, words: &[u32])
 // ---- The card
 
 // A set-up, its queue and its default words, after the sheet whose text this is.
-pub fn put_card(page: &mut Page, setup: Setup, queue: usize, words: &[u32], text: &[u8])
+pub fn put_card(page: &mut Page<'_>, setup: Setup, queue: usize, words: &[u32], text: &[u8])
     ensures { page.new ≡ put (card_text setup queue words.now text.now) page.old }
 {
     let entries = setup.entries;

@@ -14,7 +14,7 @@ use times::{ClaimedTime, Code, code_for, next_lower};
 const END: u8 = 0x0A;
 
 // The next lower code, or that there is none.
-fn put_lower_line(page: &mut Page, c: ClaimedTime, code: Code)
+fn put_lower_line(page: &mut Page<'_>, c: ClaimedTime, code: Code)
     ensures { page.new ≡ put (lower_line c (next_lower code)) page.old }
 {
     match next_lower(code) {
@@ -30,7 +30,7 @@ fn put_lower_line(page: &mut Page, c: ClaimedTime, code: Code)
 }
 
 // The claim, its code and the next lower one.
-fn put_coded(page: &mut Page, c: ClaimedTime, code: Code)
+fn put_coded(page: &mut Page<'_>, c: ClaimedTime, code: Code)
     ensures { page.new ≡ put (lines_of_code c (Some code)) page.old }
 {
     put_claimed(page, c);
@@ -41,7 +41,7 @@ fn put_coded(page: &mut Page, c: ClaimedTime, code: Code)
 }
 
 // The three lines of a time; none for a time without a code.
-pub fn put_code_lines(page: &mut Page, c: ClaimedTime)
+pub fn put_code_lines(page: &mut Page<'_>, c: ClaimedTime)
     ensures { page.new ≡ put (code_lines c) page.old }
 {
     match code_for(c) {
@@ -51,7 +51,7 @@ pub fn put_code_lines(page: &mut Page, c: ClaimedTime)
 }
 
 // The line of a time without a code: 43, and by how much it is too long.
-pub fn put_too_long_line(page: &mut Page, c: ClaimedTime)
+pub fn put_too_long_line(page: &mut Page<'_>, c: ClaimedTime)
     ensures { page.new ≡ put (too_long_line c) page.old }
 {
     page.put_text(b"43: ");

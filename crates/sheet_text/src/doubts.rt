@@ -17,7 +17,7 @@ use times::{ClaimedTime, Code};
 
 // The line of a time, where there is a doubt.
 fn put_time_doubt(
-    page: &mut Page,
+    page: &mut Page<'_>,
     name: &[u8],
     slot: u64,
     which: usize,
@@ -29,14 +29,14 @@ fn put_time_doubt(
 {
     if let Some(d) = doubt(before, after) {
         put_name(page, name);
-        put_doubt(page, slot, which, claim, before, after, d);
+        put_doubt(page, slot, which, claim, before, after, Some(d));
         page.put_byte(0x0A);
     }
 }
 
 // The lines of the four times of a slot.
 fn put_times_doubts(
-    page: &mut Page,
+    page: &mut Page<'_>,
     name: &[u8],
     slot: u64,
     l: SheetLine,
@@ -52,7 +52,7 @@ fn put_times_doubts(
 }
 
 // A slot that the sheet doesn't name has none.
-fn put_slot_doubts(page: &mut Page, name: &[u8], slot: u64, l: LineRead, before: Slot, after: Slot)
+fn put_slot_doubts(page: &mut Page<'_>, name: &[u8], slot: u64, l: LineRead, before: Slot, after: Slot)
     ensures { page.new ≡ put (slot_doubts name.now slot l before after) page.old }
 {
     if l.fits {
@@ -61,7 +61,7 @@ fn put_slot_doubts(page: &mut Page, name: &[u8], slot: u64, l: LineRead, before:
 }
 
 // The lines of each slot, by its entries before and after.
-fn put_each_slot(page: &mut Page, name: &[u8], before: [Slot; 32], after: [Slot; 32], text: &[u8])
+fn put_each_slot(page: &mut Page<'_>, name: &[u8], before: [Slot; 32], after: [Slot; 32], text: &[u8])
     ensures { page.new ≡ put (doubts_from name.now 0 (lines_of text.now) before after) page.old }
 {
     for i in 0..32 {
@@ -74,7 +74,7 @@ fn put_each_slot(page: &mut Page, name: &[u8], before: [Slot; 32], after: [Slot;
 }
 
 // The lines about a sheet, by its name and its text, that led from one set-up to another.
-pub fn put_doubts(page: &mut Page, name: &[u8], before: Setup, after: Setup, text: &[u8])
+pub fn put_doubts(page: &mut Page<'_>, name: &[u8], before: Setup, after: Setup, text: &[u8])
     ensures { page.new ≡ put (doubts_text name.now before after text.now) page.old }
 {
     let old = before.entries;

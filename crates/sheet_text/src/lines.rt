@@ -8,7 +8,7 @@ ghost use Rattle.text_line.specs.Page.{put};
 use text_line::Page;
 
 // The name of the file that the line is about.
-pub fn put_name(page: &mut Page, name: &[u8])
+pub fn put_name(page: &mut Page<'_>, name: &[u8])
     ensures { page.new ≡ put (name.now ++ chars ": ") page.old }
 {
     page.put_text(name);

@@ -1,14 +1,50 @@
 -- Numbers in hex and decimal.
-use Prim.Native.Nat.{ℕ, zero, suc, ◌-◌, ◌*◌, ◌/◌, ◌%◌, ◌^◌, ◌≤◌, ◌<◌}
+use Prim.Native.Nat.{ℕ, zero, suc, ◌+◌, ◌-◌, ◌*◌, ◌/◌, ◌%◌, ◌^◌, ◌≤◌, ◌<◌}
 use mathlib.Core.Path.{◌≡◌, refl, ap}
 use mathlib.Core.Bool.{Bool, true, false}
 use mathlib.Core.List.{List, [], ◌∷◌, ◌++◌}
 use native.Mathlib.Omega.{arith}
-use native.Mathlib.Nat.{div-div-eq-div-mul, div-lt_iff_lt-mul, le-div_iff_mul-le, mod-eq_of_lt, mod-lt, pow-suc, pow-le-pow_right}
+use native.Mathlib.Numerals.{add-one}
+use native.Mathlib.Nat.{div-div-eq-div-mul, div-eq_of_lt, div-lt_iff_lt-mul, le-div_iff_mul-le, mod-eq_of_lt, mod-lt, pow-suc, pow-le-pow_right}
 use borrow.Author.Tests.{lt-ltb, le-ltb, leb-true, leb-false}
 use lib.Dec.{leb}
 use Rattle.io.specs.Digits.{hex_digit_ascii, last_digits, IsDigitCount}
 use Rattle.text_line.specs.Text.{glyph_of, hex_of, decimal_from}
+
+-- ---- hex
+
+pow_16 : (k : ℕ) → 2 ^ (4 * k) ≡ 16 ^ k
+pow_16 zero = refl
+pow_16 (suc k) =
+    let e : 4 * suc k ≡ suc (suc (suc (suc (4 * k)))) = omega arith in
+    let h : 2 ^ (4 * k) ≡ 16 ^ k = pow_16 k in
+    rw (e, pow-suc 2 (suc (suc (suc (4 * k)))), pow-suc 2 (suc (suc (4 * k))), pow-suc 2 (suc (4 * k)), pow-suc 2 (4 * k), pow-suc 16 k) (omega (arith, h))
+
+-- a digit by a shift
+pub shifted : (n k : ℕ) → n / 2 ^ (4 * k) % 16 ≡ n / 16 ^ k % 16
+shifted n k = rw (pow_16 k) refl
+
+-- above the sixteenth all digits are 0
+pub none_above : (n k : ℕ) → n < 2 ^ 64 → 16 ≤ k → 0 ≡ n / 16 ^ k % 16
+none_above n k h g =
+    let a : 16 ^ 16 ≤ 16 ^ k = pow-le-pow_right (omega arith) g in
+    let b : n < 16 ^ k = omega arith in
+    let e : n / 16 ^ k ≡ 0 = div-eq_of_lt b in
+    rw e refl
+
+-- the highest i digits, and one more
+pub next_digit : (k n i : ℕ) → i < k → hex_of i (n / 16 ^ (k - i)) ++ (glyph_of (n / 16 ^ (k - 1 - i) % 16) ∷ []) ≡ hex_of (i + 1) (n / 16 ^ (k - (i + 1)))
+unfolding hex_of
+next_digit k n i h =
+    let e : k - i ≡ suc (k - 1 - i) = omega arith in
+    let f : k - (i + 1) ≡ k - 1 - i = omega arith in
+    rw (e, f, add-one, pow-suc 16 (k - 1 - i), div-div-eq-div-mul n (16 ^ (k - 1 - i)) 16) refl
+
+pub all_digits : (k i n : ℕ) → i ≡ k → hex_of i (n / 16 ^ (k - i)) ≡ hex_of k n
+all_digits k i n e =
+    let z : k - k ≡ 0 = omega arith in
+    let f : n / 16 ^ 0 ≡ n = omega arith in
+    rw (e, z, f) refl
 
 -- ---- decimal
 

@@ -1,29 +1,19 @@
 // A page, and texts and numbers put on it.
-ghost use Rattle.std.specs.Prelude.{◌≡◌, cond, List, [], ◌∷◌, ℕ, take, ◌≤◌, length};
-ghost use Rattle.text_line.specs.Page.{put};
+ghost use Rattle.std.specs.Prelude.{◌≡◌, ◌/◌, ◌%◌, ◌^◌, cond, [], ◌∷◌, length};
+ghost use Rattle.text_line.specs.Page.{page_over, put, written};
 ghost use Rattle.text_line.specs.Text.{glyph_of, hex_of, decimal_of, three_of, six_of, grouped_of, named, text_if, short_margin, margin_of, column_of, spaced_of, bytes_of};
-
-use std::marker::Model;
 
 // The longest line that is written.
 pub const LINE: usize = 1024;
 
-// How many bytes a page has room for: the longest text that is put at once.
+// The longest text that is put at once.
 pub const PAGE: usize = 131072;
 
-// Text, as far as it was put.
+// A line that is lent, and the index at which the next text goes. What stands before it stays, and so does what no text comes to.
 #[derive(Drop)]
-pub struct Page {
-    bytes: [u8; PAGE],
-    count: usize,
-}
-
-impl Model for Page {
-    ghost Value = { List ℕ };
-
-    ghost view = { λ p. take p.count p.bytes };
-
-    ghost invariant = { λ p. p.count ≤ 131072 };
+pub struct Page<'a> {
+    line: &'a mut [u8],
+    at: usize,
 }
 
 // The character of a digit below 16, in upper case.
@@ -39,51 +29,81 @@ fn glyph(n: u8) -> u8
     }
 }
 
-impl Page {
-    // An empty page.
-    pub fn new() -> Page
-        ensures { result ≡ [] }
+// The digit of a number at a place in hex, counted from the last.
+fn hex_digit(n: u64, place: usize) -> u8
+    ensures { result ≡ n / 16 ^ place % 16 }
+{
+    if place < 16 {
+        ((n >> (4 * place)) % 16) as u8
+    } else {
+        0
+    }
+}
+
+impl<'a> Page<'a> {
+    // The page over a line, whose next text goes to an index.
+    pub fn over(line: &'a mut [u8], at: usize) -> Page<'a>
+        ensures { result ≡ page_over line.entry at }
     {
-        Page {
-            bytes: [0; PAGE],
-            count: 0,
-        }
+        Page { line, at }
     }
 
-    // What was put.
-    pub fn text(&self) -> &[u8]
-        ensures { result.now ≡ self.now }
+    // The page is given up: the index at which the next text would go. What stands in the line stays.
+    pub fn close(self) -> usize
+        ensures line { self.exit.0.now ≡ self.entry.line.now }
+        ensures at { result ≡ self.entry.at }
     {
-        &self.bytes[..self.count]
+        self.at
+    }
+
+    // The index at which the next text goes.
+    pub fn at(&self) -> usize
+        ensures { result ≡ self.now.at }
+    {
+        self.at
+    }
+
+    // What stands on the page.
+    pub fn text(&self) -> &[u8]
+        ensures { result.now ≡ written self.now }
+    {
+        &self.line[..self.at.min(self.line.len())]
     }
 
     pub fn len(&self) -> usize
-        ensures { result ≡ length self.now }
+        ensures { result ≡ length (written self.now) }
     {
-        self.count
+        self.text().len()
     }
 
+    // The next text goes to the front again.
     pub fn clear(&mut self)
-        ensures { self.new ≡ [] }
+        ensures { self.new ≡ page_over self.old.line 0 }
     {
-        self.count = 0;
+        self.at = 0;
     }
 
     pub fn put_byte(&mut self, b: u8)
         ensures { self.new ≡ put (b ∷ []) self.old }
     {
-        if self.count < PAGE {
-            self.bytes[self.count] = b;
-            self.count += 1;
+        if self.at < self.line.len() {
+            self.line[self.at] = b;
+            self.at += 1;
         }
     }
 
     pub fn put_text(&mut self, text: &[u8])
         ensures { self.new ≡ put text.now self.old }
     {
+        let line = &mut *self.line;
+        let mut at = self.at;
         for b in text {
-            self.put_byte(*b);
+            if at < line.len() {
+                line[at] = *b;
+                at += 1;
+            }
         }
+        self.at = at;
     }
 
     // A number in decimal.
@@ -96,13 +116,12 @@ impl Page {
     }
 
     // The last k hex digits of a number.
-    #[tactic(auto, using(crate::proofs::Putting::putting), unfolding(crate::specs::Text::hex_of))]
     pub fn put_hex(&mut self, k: usize, n: u64)
         ensures { self.new ≡ put (hex_of k n) self.old }
     {
-        if k > 0 {
-            self.put_hex(k - 1, n / 16);
-            self.put_byte(glyph((n % 16) as u8));
+        for i in 0..k {
+            let place = k - 1 - i;
+            self.put_byte(glyph(hex_digit(n, place)));
         }
     }
 

@@ -119,7 +119,13 @@ fn put_since(page: &mut Page<'_>, earlier: Option<Stamp>, stamp: Stamp)
 }
 
 // An entry: the byte offset of its record's kind, its stamp, the difference to the stamp before, and the record.
-pub fn put_entry(page: &mut Page<'_>, offset: u64, earlier: Option<Stamp>, stamp: Stamp, item: Record)
+pub fn put_entry(
+    page: &mut Page<'_>,
+    offset: u64,
+    earlier: Option<Stamp>,
+    stamp: Stamp,
+    item: Record,
+)
     ensures { page.new ≡ put (entry_text offset earlier stamp item) page.old }
 {
     put_place(page, offset, stamp);

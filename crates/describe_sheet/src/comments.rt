@@ -33,7 +33,13 @@ fn put_code_comment(page: &mut Page<'_>, claim: ClaimedTime, code: Code)
 }
 
 // A time of a slot on the sheet: the claim, and the code that it is given.
-pub fn put_time_comment(page: &mut Page<'_>, slot: u64, which: usize, claim: ClaimedTime, code: Code)
+pub fn put_time_comment(
+    page: &mut Page<'_>,
+    slot: u64,
+    which: usize,
+    claim: ClaimedTime,
+    code: Code,
+)
     ensures { page.new ≡ put (time_comment slot which claim code) page.old }
 {
     put_claimed_comment(page, slot, which, claim);

@@ -13,7 +13,14 @@ use text_line::Page;
 use times::{ClaimedTime, Code, in_nanos};
 
 // A claim, the time of its code, and the time that the card had.
-fn put_both(page: &mut Page<'_>, slot: u64, which: usize, claim: ClaimedTime, before: Code, after: Code)
+fn put_both(
+    page: &mut Page<'_>,
+    slot: u64,
+    which: usize,
+    claim: ClaimedTime,
+    before: Code,
+    after: Code,
+)
     ensures { page.new ≡ put (both_text slot which claim before after) page.old }
 {
     put_slot_time(page, slot, which);

@@ -52,7 +52,14 @@ fn put_times_doubts(
 }
 
 // A slot that the sheet doesn't name has none.
-fn put_slot_doubts(page: &mut Page<'_>, name: &[u8], slot: u64, l: LineRead, before: Slot, after: Slot)
+fn put_slot_doubts(
+    page: &mut Page<'_>,
+    name: &[u8],
+    slot: u64,
+    l: LineRead,
+    before: Slot,
+    after: Slot,
+)
     ensures { page.new ≡ put (slot_doubts name.now slot l before after) page.old }
 {
     if l.fits {
@@ -61,7 +68,13 @@ fn put_slot_doubts(page: &mut Page<'_>, name: &[u8], slot: u64, l: LineRead, bef
 }
 
 // The lines of each slot, by its entries before and after.
-fn put_each_slot(page: &mut Page<'_>, name: &[u8], before: [Slot; 32], after: [Slot; 32], text: &[u8])
+fn put_each_slot(
+    page: &mut Page<'_>,
+    name: &[u8],
+    before: [Slot; 32],
+    after: [Slot; 32],
+    text: &[u8],
+)
     ensures { page.new ≡ put (doubts_from name.now 0 (lines_of text.now) before after) page.old }
 {
     for i in 0..32 {

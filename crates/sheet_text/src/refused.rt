@@ -13,7 +13,14 @@ use sheet::{fault_in, line_of, place_after};
 use text_line::Page;
 
 // The line about a refusal: its number, and which line is at fault, the first of the rest of the sheet.
-fn put_refusal_line(page: &mut Page<'_>, name: &[u8], slots: usize, number: u8, row: usize, rest: &[u8])
+fn put_refusal_line(
+    page: &mut Page<'_>,
+    name: &[u8],
+    slots: usize,
+    number: u8,
+    row: usize,
+    rest: &[u8],
+)
     ensures { page.new ≡ put (refusal_line name.now slots number row rest.now) page.old }
 {
     let l = line_of(rest);

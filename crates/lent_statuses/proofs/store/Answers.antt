@@ -14,8 +14,8 @@ loop-i-preserved c =
     let few : i < length xs = omega (arith, c.min-i-end.ensures) in
     let in_array : i < length array = omega (arith, c.min-i-end.ensures) in
     c.replace_status.ensures
-        ∙ ap (λ (a : List Status). set a i (get_or array i down)) c.loop-i.invariant
-        ∙ write_more xs array i down few in_array
+    ∙ ap (λ (a : List Status). set a i (get_or array i down)) c.loop-i.invariant
+    ∙ write_more xs array i down few in_array
 
 pub returns : goal.returns
 returns c =

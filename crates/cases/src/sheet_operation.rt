@@ -12,18 +12,20 @@ const MOST: usize = 4096;
 // The number and the line, then four codes for each of 32 entries.
 const WRITTEN: usize = 259;
 
-// The four codes of an entry.
-fn put_codes(bytes: &mut [u8], entry: &Slot) {
-    let codes = [entry.reset, entry.dl_up, entry.flr, entry.d3hot];
-    for (two, code) in bytes.chunks_exact_mut(2).zip(codes) {
-        two.copy_from_slice(&code_number(code).to_le_bytes());
-    }
+// The four codes of an entry, two bytes each.
+fn codes_of(entry: &Slot) -> [u8; 8] {
+    let [a, b] = code_number(entry.reset).to_le_bytes();
+    let [c, d] = code_number(entry.dl_up).to_le_bytes();
+    let [e, f] = code_number(entry.flr).to_le_bytes();
+    let [g, h] = code_number(entry.d3hot).to_le_bytes();
+    [a, b, c, d, e, f, g, h]
 }
 
 // Those of 32 entries.
 fn put_entries(bytes: &mut [u8], entries: &[Slot; 32]) {
-    for (codes, entry) in bytes.chunks_exact_mut(8).zip(entries) {
-        put_codes(codes, entry);
+    let (places, _) = bytes.as_chunks_mut::<8>();
+    for (codes, entry) in places.iter_mut().zip(entries) {
+        *codes = codes_of(entry);
     }
 }
 

@@ -1,5 +1,5 @@
 // Why a read or a write failed.
-ghost use Rattle.std.specs.Prelude.{◌≡◌, pos, ◌<ℤ◌};
+ghost use Rattle.std.specs.Prelude.{◌≡◌, pos, ◌<ℤ◌, ◌↔◌, IsSome, IfSome};
 
 use crate::files::{complain, complain_line, name_file};
 use std::io;
@@ -10,6 +10,20 @@ use text_line::{LINE, Page};
 pub struct ErrorNumber {
     number: i32,
     ghost positive: { pos 0 <ℤ number },
+}
+
+impl ErrorNumber {
+    // The number, where a system's error can have it.
+    pub fn new(number: i32) -> Option<ErrorNumber>
+        ensures some { IsSome result ↔ pos 0 <ℤ number }
+        ensures value { IfSome result (λ error. error.number ≡ number) }
+    {
+        if number > 0 {
+            Some(ErrorNumber { number })
+        } else {
+            None
+        }
+    }
 }
 
 // What the system's error means; any other has its number.
@@ -111,4 +125,19 @@ pub fn after_printing(rt: &HostRuntime, written: Result<(), Failure>) -> Result<
         failure.complain_write(rt);
     }
     written
+}
+
+#[cfg(test)]
+mod tests {
+    use super::*;
+
+    #[test]
+    fn errors_have_numbers_above_0(rt: HostRuntime) {
+        assert!(rt; ErrorNumber::new(0).is_none());
+        assert!(rt; ErrorNumber::new(-5).is_none());
+        match ErrorNumber::new(38) {
+            Some(number) => assert_eq!(rt; Failure::Other(number).number(), 38),
+            None => assert!(rt; false),
+        }
+    }
 }

@@ -76,11 +76,47 @@ impl<'a> Output<'a> {
         self.count = put_at(&mut self.bytes, self.count, text);
     }
 
+    fn put_end(&mut self)
+        ensures { self.new.writer.to ≡ self.old.writer.to }
+    {
+        self.put(|page| page.put_byte(b'\n'));
+    }
+
+    // The end of a line after which there is no room for the next, or none for the end itself.
+    #[cold]
+    #[inline(never)]
+    fn end_last(&mut self)
+        ensures { self.new.writer.to ≡ self.old.writer.to }
+    {
+        self.make_room(1);
+        self.put_end();
+        self.make_room(LINE);
+    }
+
     // The line that was put ends. Afterwards there is room for the next.
     pub fn end_line(&mut self)
         ensures { self.new.writer.to ≡ self.old.writer.to }
     {
-        self.put(|page| page.put_byte(b'\n'));
-        self.make_room(LINE);
+        if PIECE.saturating_sub(self.count) > LINE {
+            self.put_end();
+        } else {
+            self.end_last();
+        }
+    }
+}
+
+#[cfg(test)]
+mod tests {
+    use super::*;
+
+    // Where no byte more fits, what waits is written first, and the end of the line waits.
+    #[test]
+    fn full_output_ends_its_line(rt: HostRuntime) {
+        let mut out = Output::new(Sink::Nowhere);
+        out.count = PIECE;
+        out.end_line();
+        let first = out.bytes[0];
+        assert_eq!(rt; out.count, 1);
+        assert_eq!(rt; first, b'\n');
     }
 }

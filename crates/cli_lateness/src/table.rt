@@ -9,7 +9,7 @@ use describe_lateness::totals::{put_counts, put_range, put_refusal};
 use lateness::{Report, bench_time, totals};
 use readiness::Moments;
 use score::{Collected, choose, total, total_of_capture};
-use text_line::Page;
+use text_line::{LINE, Page};
 
 // ---- Totals
 
@@ -72,6 +72,7 @@ pub fn print_totals(
     c: Collected,
     list: &mut [i64],
 ) {
+    out.make_room(LINE);
     let r = total(values, c);
     if !is_refused(r) {
         let n = c.count.min(values.len());
@@ -87,6 +88,7 @@ pub fn print_totals(
 pub fn print_table(out: &mut Output<'_>, slots: usize, bench: Moments, seen: Moments) -> bool
     ensures { result ≡ is_refused (capture_total slots bench seen) }
 {
+    out.make_room(LINE);
     for slot in 0..slots.min(32) {
         let made = bench_time(slots, bench, slot);
         let first = bench_time(slots, seen, slot);
@@ -96,4 +98,35 @@ pub fn print_table(out: &mut Output<'_>, slots: usize, bench: Moments, seen: Mom
     let r = total_of_capture(slots, bench, seen);
     print_total(out, r);
     is_refused(r)
+}
+
+#[cfg(test)]
+mod tests {
+    use super::*;
+    use cli_io::input::PIECE;
+    use cli_io::sink::Sink;
+    use readiness::no_moments;
+
+    // Where little room is left, what waits is written first.
+    #[test]
+    fn totals_are_whole(rt: HostRuntime) {
+        let mut out = Output::new(Sink::Nowhere);
+        out.count = PIECE - 10;
+        let refused = print_table(&mut out, 0, no_moments(), no_moments());
+        assert!(rt; !refused);
+        assert_eq!(rt;
+            out.bytes[..out.count.min(PIECE)],
+            b"all differences: early 0, on time 0, late 0\n"[..]
+        );
+        out.count = PIECE - 10;
+        let nothing = Collected {
+            count: 0,
+            outside: false,
+        };
+        print_totals(&mut out, &[0i64; 1], &[0usize; 1], nothing, &mut [0i64; 1]);
+        assert_eq!(rt;
+            out.bytes[..out.count.min(PIECE)],
+            b"all differences: early 0, on time 0, late 0\n"[..]
+        );
+    }
 }

@@ -13,6 +13,7 @@ use describe_capture::capture_words::{put_advanced, put_replayed};
 use feed::Fed;
 use replay::Replayed;
 use replay_state::stamps::stamp_in;
+use text_line::LINE;
 
 // The bench and the replay, and the entry that is replayed, as far as its bytes are read; whether only the end is printed.
 #[derive(Clone, Copy)]
@@ -82,6 +83,7 @@ impl CaptureSource {
 
     // The line of an answer after this call: of an advance, or of the entry's record.
     fn print_call(&self, after: Session, answer: &[u8], printed: &mut Output<'_>) {
+        printed.make_room(LINE);
         let before = self.state;
         let replay = before.replay;
         let stamp = stamp_in(self.entry.stamp);

@@ -9,6 +9,7 @@ use cli_io::output::Output;
 use decode::decoding::decode;
 use decode::gathering::size_of;
 use describe_trace::trace_words::{put_incomplete, put_run, put_unknown};
+use text_line::LINE;
 
 // The bench, and the record that is fed, as far as its bytes are read.
 #[derive(Clone, Copy)]
@@ -30,6 +31,7 @@ impl TraceSource {
 
     // The line of a record that was run, or of a byte that is no kind, after this call.
     fn print_call(&self, after: Session, answer: &[u8], printed: &mut Output<'_>) {
+        printed.make_room(LINE);
         let offset = self.session.record_offset();
         let bytes = self.held.bytes;
         if after.number == 31 {
@@ -72,6 +74,7 @@ impl Source for TraceSource {
         let port = self.session.port;
         if port.carried_len > 0 {
             let kind = port.carried[0];
+            printed.make_room(LINE);
             let offset = self.session.record_offset();
             printed.put(|page| put_incomplete(page, offset, kind, port.carried_len, size_of(kind)));
             printed.end_line();
